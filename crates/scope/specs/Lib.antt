@@ -1,0 +1,29 @@
+-- Document 01 as definitions: a file for each of its sections, in the paper's order and words. A reader has to believe only these.
+-- Built: checking a book (`check-answer`), reading one line of it (`read-answer`), flattening one routine (`flatten-call`), running a flat
+-- program (`run-call`), a single bench step (`bench-call`), a quote for the longest run (`quote-answer`), one program over these
+-- (`shop-prints`), and what the page in C gets of three of them (`page-flatten`, `page-run`, `page-quote`).
+
+-- the words that the definitions are written in
+pub mod Words
+-- "The machine and the idea of flattening are those of source document 000"
+pub mod Ram
+-- "The book"
+pub mod Book
+-- what "Nested reading" and "Running" share
+pub mod Steps
+-- "Nested reading"
+pub mod Nested
+-- "Flattening"
+pub mod Flattening
+-- "Running"
+pub mod Running
+-- "Steady routines and the quote"
+pub mod Quote
+-- "Numbers of refusal"
+pub mod Refusals
+-- "The shop's program and the page"
+pub mod Page
+pub mod Shop
+-- "Samples (starred ones are proved)"
+pub mod Cases
+pub mod Samples
