@@ -1,11 +1,11 @@
--- Each number of refusal but 11, which no book can earn, is given by some call: sample A damaged in one or two places, or asked wrongly.
+-- Each number of refusal but 11, which no book can earn, is given by some call: sample A with other bytes, small books, or a wrong question.
 -- (13 is sample H's.) The checker works out both columns; the right one is typed from document 01's table and "Order". Assumes nothing.
 use Prim.Native.Nat.{ℕ}
 use Prim.Native.String.{String}
 use mathlib.Core.Bool.{true, false}
 use mathlib.Core.Path.{_≡_, refl}
 use mathlib.Core.List.{List, [], _∷_, _++_, map}
-use Rattle.scope.specs.Refusals.{Name, SHORT, FORMAT, COUNTS, OFFSETS, LENGTH, ROUTINE, KIND, REGISTER, TARGET, CALLEE, NO-ROUTINE, NO-ROOM, NOT-FLAT, REGISTERS, LINE, NOT-STEADY, QUOTE, Verdict, refuse}
+use Rattle.scope.specs.Refusals.{Name, SHORT, FORMAT, COUNTS, OFFSETS, LENGTH, ROUTINE, KIND, REGISTER, TARGET, CALLEE, NO-ROUTINE, NO-ROOM, NOT-FLAT, REGISTERS, LINE, NOT-STEADY, QUOTE, Verdict, pass, refuse}
 use Rattle.scope.specs.Words.{listed}
 use Rattle.scope.specs.Book.{book-verdict, read-verdict}
 use Rattle.scope.specs.Flattening.{flatten-verdict}
@@ -23,6 +23,9 @@ record Row : Type 0 where
 
 abbrev _gives_at_ : Verdict → Name → ℕ → Row
 v gives n at p = record { verdict = v; expected = refuse (record { name = n; place = p }) }
+
+abbrev passes : Verdict → Row
+passes v = record { verdict = v; expected = pass }
 
 -- sample A with other bytes: its header, its routine table, its lines
 abbrev checked : String → String → String → Verdict
@@ -62,9 +65,13 @@ line-rows =
     (checked header-A table-A "01 01 00 00, 00 00 00 00" gives KIND at 1)
     ∷ (checked header-A table-A "01 01 00 00, 06 00 00 00" gives KIND at 1)
     ∷ (checked header-A table-A "01 20 00 00, 05 00 00 00" gives REGISTER at 0)
+    ∷ (checked header-A table-A "01 01 00 00, 05 20 00 00" gives REGISTER at 1)
     ∷ (checked header-A table-A "01 01 00 00, 03 01 00 00" gives REGISTER at 1)
+    ∷ (checked header-A table-A "01 01 00 00, 04 01 00 00" gives REGISTER at 1)
     ∷ (checked header-A table-A "01 01 01 00, 05 00 00 00" gives TARGET at 0)
     ∷ (checked header-A table-A "02 01 02 00, 05 00 00 00" gives TARGET at 0)
+    ∷ (checked header-A table-A "03 00 02 00, 05 00 00 00" gives TARGET at 0)
+    ∷ passes (checked header-A table-A "02 1F 01 00, 03 00 01 00")
     ∷ (checked header-A table-A "01 01 00 00, 05 00 01 00" gives CALLEE at 1)
     ∷ (checked header-A table-A "04 00 00 00, 05 00 00 00" gives CALLEE at 0)
     ∷ (checked header-A table-A "01 20 01 00, 06 00 00 00" gives REGISTER at 0)
@@ -92,10 +99,27 @@ call-rows =
     ∷ (shop-verdict (listed (λ i. 0) 0 16599) gives LENGTH at 0)
     ∷ []
 
+-- a book of three routines with a line each, and the quote of the last
+abbrev quoted : String → Verdict
+quoted lines = quote-verdict (hex "01 00 03 00 03 00 0C 00 18 00 24 00, 00 00 01 00, 01 00 01 00, 02 00 01 00" ++ hex lines) 2
+
+-- 18: a jump to its own line, also one that is called; a REPEAT whose register is named under the repeated routine, by INC or by REPEAT.
+-- GO TO has 0 in the register's byte and names nothing, and a routine that is not used does no harm.
+steady-rows : List Row
+steady-rows =
+    (quoted "01 00 00 00, 01 00 00 00, 02 01 00 00" gives NOT-STEADY at 0)
+    ∷ (quoted "02 01 00 00, 04 00 00 00, 04 00 01 00" gives NOT-STEADY at 0)
+    ∷ (quoted "01 00 00 00, 04 00 00 00, 05 00 01 00" gives NOT-STEADY at 0)
+    ∷ (quoted "01 01 00 00, 05 00 00 00, 05 00 01 00" gives NOT-STEADY at 0)
+    ∷ passes (quoted "01 01 00 00, 05 02 00 00, 05 00 01 00")
+    ∷ passes (quoted "03 00 01 00, 05 00 00 00, 04 00 01 00")
+    ∷ passes (quoted "03 00 00 00, 01 00 00 00, 04 00 01 00")
+    ∷ []
+
 abbrev rows : List Row
-unfolding book-rows line-rows call-rows
-rows = book-rows ++ line-rows ++ call-rows
+unfolding book-rows line-rows call-rows steady-rows
+rows = book-rows ++ line-rows ++ call-rows ++ steady-rows
 
 refusals-hold : map (λ r. r .verdict) rows ≡ map (λ r. r .expected) rows
-unfolding computed book-rows line-rows call-rows rows
+unfolding computed book-rows line-rows call-rows steady-rows
 refusals-hold = refl

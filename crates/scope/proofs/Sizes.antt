@@ -6,6 +6,7 @@ use native.Mathlib.Omega.{arith}
 use Rattle.scope.specs.Book.{most-routines, most-lines, line-table-due, length-due, last-register, most-bytes}
 use Rattle.scope.specs.Steps.{register-count}
 use Rattle.scope.specs.Flattening.{flat-book-bytes}
+use Rattle.scope.specs.Quote.{most-quote}
 use Rattle.scope.specs.Page.{registers-length}
 use Rattle.scope.specs.Shop.{trailer-length, most-input}
 
@@ -33,3 +34,7 @@ trailer-sum = refl
 -- .. over 16,598 ..: no book is longer
 pub longest-input : most-input ≡ most-bytes + trailer-length
 longest-input = refl
+
+-- .. 2^64-1
+pub largest-quote : most-quote ≡ 18446744073709551615
+largest-quote = refl

@@ -1,5 +1,5 @@
 -- Document 01, "The shop's program and the page": what the page in C gets from flattening, running and the quote, field by field.
--- A refusal's number is 0 where the call is accepted; where it is refused, every other field but the place is 0. Assumes nothing.
+-- The refusal's number is 0 where the call is accepted. Where it is refused, the fields of its values are 0. Assumes nothing.
 use Prim.Native.Nat.{ℕ, _*_}
 use mathlib.Core.List.{List}
 use lib.ListN.{length}
@@ -11,7 +11,8 @@ use Rattle.scope.specs.Flattening.{flatten-call}
 use Rattle.scope.specs.Running.{Ran, flat-run, program-of, run-verdict, ran}
 use Rattle.scope.specs.Quote.{quote-answer}
 
--- What C gets from a call that is lent bytes to write in: the answer's fields, and what stands in those bytes afterwards.
+-- The page .. calls flattening, running and the quote with byte slices and numbers. Of a call that is lent bytes to write in it gets the
+-- answer's fields and what then stands in those bytes. .. apart from the answer's own bytes a refusal writes nothing there either.
 pub record Page-call (F : Type 0) : Type 0 where
   pub fields : F
   pub left : List ℕ

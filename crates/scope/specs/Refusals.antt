@@ -32,7 +32,7 @@ number LINE = 17
 number NOT-STEADY = 18
 number QUOTE = 19
 
--- A refusal carries its place: the routine for 6, the line counted over the whole book for 7 to 10, else 0.
+-- A refusal carries its place: the routine for 6 .., the line counted over the whole book for 7 to 10, else 0.
 pub record Refusal : Type 0 where
   pub name : Name
   pub place : ℕ
@@ -42,7 +42,7 @@ pub data Verdict : Type 0 where
   pass : Verdict
   refuse : Refusal → Verdict
 
--- Order: a test that finds its fault gives its refusal, otherwise the next one is made. So the tests of a call stand under one another:
+-- Order: a test that finds its fault gives its refusal, otherwise the next is made. So the tests of a call stand under one another:
 --     refuse-if (.. is wrong) NAME place otherwise
 --     refuse-if (.. is wrong) NAME place otherwise
 --     pass
@@ -57,7 +57,7 @@ unfoldable pub _and-then_ : Verdict → Verdict → Verdict
 pass and-then v = v
 refuse x and-then v = refuse x
 
--- The lowest is the one named: the first refusal among t 0, t 1, .., t (n - 1).
+-- .. the lowest .. is the one named ..: the first refusal among t 0, t 1, .., t (n - 1)
 unfoldable pub first : (ℕ → Verdict) → ℕ → Verdict
 first t zero = pass
 first t (suc n) = first t n and-then t n
@@ -76,7 +76,7 @@ pub record Call (A L : Type 0) : Type 0 where
   pub answer : Answer A
   pub left : L
 
--- Refused, nothing is written: what was lent is then what it was.
+-- Nothing is written and no step is counted: refused, what was lent is what it was.
 unfoldable pub left-of : {L : Type 0} → Verdict → L → L → L
 left-of pass written lent = written
 left-of (refuse x) written lent = lent

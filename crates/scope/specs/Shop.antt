@@ -23,6 +23,7 @@ trailer-length = 74
 abbrev pub most-input : ℕ
 most-input = 16598
 
+-- the last 74 bytes are the trailer, whatever the header says
 unfoldable pub book-read : List ℕ → List ℕ
 book-read input = take (length input - trailer-length) input
 
@@ -82,7 +83,7 @@ unfoldable pub register-lines : (j : ℕ) → Registers → List ℕ
 register-lines j [] = []
 register-lines j (v ∷ vs) = register-line j v ++ register-lines (suc j) vs
 
--- It .. prints outcome, steps and line, then ..
+-- .. and prints outcome, steps and line, then ..
 unfoldable pub print-run : End ℕ → List ℕ
 print-run e = outcome-line (e .outcome) (e .steps) (e .place) ++ register-lines 0 (e .registers)
 

@@ -8,6 +8,7 @@ use lib.Dec.{eqb, leb, ltb}
 infix 45 _is_ _is-not_ _above_ _below_ _not-below_
 infixr 35 _and_
 infixr 30 _or_
+-- tests on numbers
 abbrev pub _is_ : ℕ → ℕ → Bool
 m is n = eqb m n
 
