@@ -1,3 +1,4 @@
+-- What is proved about the definitions of specs/. `Computed` opens them all; the others are what docs/PROMISES.md lists.
 pub mod Computed
 pub mod Samples
 pub mod Calls

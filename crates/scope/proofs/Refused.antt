@@ -1,4 +1,4 @@
--- Each number of refusal but 11, which no book can earn, is given by some call: sample A with other bytes, small books, or a wrong question.
+-- Each number of refusal but 11 is given by some call: sample A with other bytes, small books, or a wrong question.
 -- (13 is sample H's.) The checker works out both columns; the right one is typed from document 01's table and "Order". Assumes nothing.
 use Prim.Native.Nat.{ℕ}
 use Prim.Native.String.{String}

@@ -135,7 +135,8 @@ pub record Line-fields : Type 0 where
   pub register : ℕ
   pub operand : ℕ
 
--- A target counts lines of the routine. (A flat line number stands only in an instruction of `Ram`: the two are kept apart.)
+-- A register number, a routine's line number and a flat line number are kept apart, as document 000 keeps registers and instruction
+-- numbers apart. (A target of a line counts lines of its routine. A flat line number stands only in an instruction of `Ram`.)
 pub data Line : Type 0 where
   INC : (register : ℕ) → Line
   DEC : (register target : ℕ) → Line
@@ -160,10 +161,15 @@ REPEAT-kind = 5
 
 -- | Kind | Register | Operand |
 unfoldable pub fields-of : Line → Line-fields
+-- | 1 INC | 0 to 31 | 0 |
 fields-of (INC r) = record { kind = INC-kind; register = r; operand = 0 }
+-- | 2 DEC | 0 to 31 | target |
 fields-of (DEC r target) = record { kind = DEC-kind; register = r; operand = target }
+-- | 3 GO TO | 0 | target |
 fields-of (GO-TO target) = record { kind = GO-TO-kind; register = 0; operand = target }
+-- | 4 CALL | 0 | routine |
 fields-of (CALL routine) = record { kind = CALL-kind; register = 0; operand = routine }
+-- | 5 REPEAT | 0 to 31 | routine |
 fields-of (REPEAT r routine) = record { kind = REPEAT-kind; register = r; operand = routine }
 
 -- The same table, read from the kind. (A line that passes 7 has one of the five kinds, so what is left is REPEAT.)
@@ -202,7 +208,7 @@ line-test k g o r n p =
     refuse-if (callee-wrong k o r) CALLEE p otherwise
     pass
 
--- what stands at line i, counted over the whole book
+-- where line i stands, counted over the whole book, and what stands there
 unfoldable pub line-offset : List ℕ → ℕ → ℕ
 line-offset b i = line-table-due (routines b) + line-bytes * i
 
@@ -214,7 +220,7 @@ fields-at b i =
       operand = two-byte b (line-offset b i + 2);
     }
 
--- what stands at line j of routine r, counted inside it
+-- line j of routine r, counted inside it, as a line of the whole book, and what stands there
 unfoldable pub line-number : List ℕ → ℕ → ℕ → ℕ
 line-number b r j = first-line b r + j
 
@@ -292,6 +298,7 @@ read-verdict b r j =
     refuse-if (j not-below count b r) LINE 0 otherwise
     pass
 
+-- The book reader goes over the caller's bytes and makes no copy of them. (That is for the code: here bytes are a list.)
 -- Reading takes a routine and a line counted inside it, and answers the kind, register and operand that stand there.
 unfoldable pub read-answer : (b : List ℕ) (routine line : ℕ) → Answer Line-fields
 read-answer b r j = answer-of (read-verdict b r j) (fields-in b r j)

@@ -135,11 +135,11 @@ flatten-verdict b k room =
     refuse-if (room below flat-book-bytes (flat-length (book-of b) k)) NO-ROOM 0 otherwise
     pass
 
--- .. at the front of the output; bytes behind them stay, as in every call that writes.
+-- Accepted flattening answers the flat length n and writes its 16 + 4n bytes at the front of the output; bytes behind them stay, as in
+-- every call that writes.
 unfoldable pub at-the-front-of : (out bytes : List ℕ) → List ℕ
 at-the-front-of out bytes = bytes ++ drop (length bytes) out
 
--- Accepted flattening answers the flat length n and writes its 16 + 4n bytes ..
 unfoldable pub flatten-call : (b : List ℕ) (routine : ℕ) (out : List ℕ) → Call ℕ (List ℕ)
 flatten-call b k out =
     call-of (flatten-verdict b k (length out)) (flat-length (book-of b) k)

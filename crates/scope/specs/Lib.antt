@@ -1,11 +1,13 @@
 -- Document 01 as definitions: a file for each of its sections, in the paper's order and words. A reader has to believe only these.
+-- "What the counter page does"
 -- Built: checking a book (`check-answer`), reading one line of it (`read-answer`), flattening one routine (`flatten-call`), running a flat
--- program (`run-call`), a single bench step (`bench-call`), a quote for the longest run (`quote-answer`), one program over these
--- (`shop-prints`), and what the page in C gets of three of them (`page-flatten`, `page-run`, `page-quote`).
+-- program (`run-call`), a single bench step (`bench-call`), a quote for the longest run (`quote-answer`), and one program over these
+-- (`shop-prints`). What the page in C gets of three of them: `page-flatten`, `page-run`, `page-quote`.
+-- Left out: a text language, registers above 65,535, a routine that uses itself, talk with a real unit.
 
 -- the words that the definitions are written in
 pub mod Words
--- "The machine and the idea of flattening are those of source document 000"
+-- The machine and the idea of flattening are those of source document 000, chapter 1. REPEAT and the book are our own.
 pub mod Ram
 -- "The book"
 pub mod Book

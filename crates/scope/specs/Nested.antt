@@ -1,6 +1,6 @@
 -- Document 01, "Nested reading": the book as the mill wrote it, one routine using another. It is defined without the flat program.
 -- A place is a step that is due, at a line of a routine, under the lines that opened the routines around it. Assumes nothing.
-use Prim.Native.Nat.{ℕ, zero, suc}
+use Prim.Native.Nat.{ℕ, suc}
 use mathlib.Core.List.{List, [], _∷_}
 use lib.ListN.{drop}
 use Rattle.scope.specs.Book.{Line, INC, DEC, GO-TO, CALL, REPEAT, Book, routine, from-the-lowest-up}
@@ -60,7 +60,7 @@ module _ (book : Book) where
   nested-step (inc r) k i around rs = adds-one r rs (settle k (suc i) around)
   -- DEC on a register above 0 takes one off and goes on; on 0 it goes to the target.
   nested-step (dec r t) k i around rs = takes-one-off r rs (settle k (suc i) around) (settle k t around)
-  -- GO TO goes to the target.
+  -- GO TO goes to the target. Each of these is one step.
   nested-step (go-to t) k i around rs = goes-to (settle k t around) rs
   -- REPEAT looks at its register: at 0, one step, and it goes on; above 0, it takes one off (one step), runs the routine, ..
   nested-step (look r c) k i around rs = takes-one-off r rs (settle c 0 (a-REPEAT k i ∷ around)) (settle k (suc i) around)

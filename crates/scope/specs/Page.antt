@@ -11,8 +11,9 @@ use Rattle.scope.specs.Flattening.{flatten-call}
 use Rattle.scope.specs.Running.{Ran, flat-run, program-of, run-verdict, ran}
 use Rattle.scope.specs.Quote.{quote-answer}
 
--- The page .. calls flattening, running and the quote with byte slices and numbers. Of a call that is lent bytes to write in it gets the
--- answer's fields and what then stands in those bytes. .. apart from the answer's own bytes a refusal writes nothing there either.
+-- The page is written in C and calls flattening, running and the quote with byte slices and numbers. How an answer, with its refusal number
+-- and place, is laid out for C is the team's to choose and is written down in docs/; apart from the answer's own bytes a refusal writes
+-- nothing there either. (Of a call that is lent bytes to write in, the page gets the answer's fields and what then stands in those bytes.)
 pub record Page-call (F : Type 0) : Type 0 where
   pub fields : F
   pub left : List ℕ

@@ -3,7 +3,7 @@
 use Prim.Native.Nat.{ℕ, suc, _+_, _-_, _*_, _^_}
 use mathlib.Core.Bool.{Bool, true, false, not}
 use mathlib.Core.List.{List, [], _∷_}
-use Rattle.scope.specs.Words.{_is_, _above_, _or_, _and_, if}
+use Rattle.scope.specs.Words.{_is_, _above_, _or_, _and_}
 use Rattle.scope.specs.Refusals.{NOT-STEADY, QUOTE, Verdict, pass, refuse-if, _otherwise_, _and-then_, Answer, answer-of}
 use Rattle.scope.specs.Book.{Line, INC, DEC, GO-TO, CALL, REPEAT, Book, routine, book-of, used, from-the-lowest-up}
 use Rattle.scope.specs.Steps.{top}
@@ -38,15 +38,15 @@ module _ (book : Book) where
 -- ---- steady
 
 unfoldable pub line-steady : (named : ℕ → ℕ → Bool) (steady : ℕ → Bool) (own-number : ℕ) → Line → Bool
--- INC is always steady.
-line-steady named steady i (INC r) = true
+-- .. and a line that calls is steady if the routine is.
+line-steady named steady i (CALL c) = steady c
 -- A DEC or GO TO line is steady if its target is above its own number.
 line-steady named steady i (DEC r t) = t above i
 line-steady named steady i (GO-TO t) = t above i
--- .. and a line that calls is steady if the routine is.
-line-steady named steady i (CALL c) = steady c
--- A REPEAT line also needs that its register is not named in the repeated routine or in any routine used under it.
+-- A REPEAT line also needs that its register is not named (by INC, DEC or REPEAT) in the repeated routine or in any routine used under it.
 line-steady named steady i (REPEAT r c) = steady c and not (named r c)
+-- INC is always steady.
+line-steady named steady i (INC r) = true
 
 -- A routine is steady if its lines are, .. (here: from line i on)
 unfoldable pub lines-steady : (named : ℕ → ℕ → Bool) (steady : ℕ → Bool) (i : ℕ) → List Line → Bool

@@ -1,5 +1,6 @@
--- The register machine of source document 000, chapter 1, Definitions 1.4, 1.5 and 1.8: endless registers without an upper end.
--- Document 01 takes its machine from here, and decides where the two differ: it has 32 registers of 0 to 65,535. Assumes nothing.
+-- The machine and the idea of flattening are those of source document 000, chapter 1 (RAM machine, macro-program, "spljoštenje"). Its
+-- machine has endless registers without an upper end; ours has 32 of 0 to 65,535. Where the two differ, this paper decides.
+-- Here stands the source's own machine, its Definitions 1.4, 1.5 and 1.8. Ours is in `Steps` and `Running`. Assumes nothing.
 use Prim.Native.Nat.{ℕ, _+_, _≤_}
 use mathlib.Core.Path.{_≡_}
 use mathlib.Core.Logic.{_≢_}

@@ -6,7 +6,7 @@ use Prim.Native.String.{String}
 use mathlib.Core.List.{List, [], _∷_, _++_}
 use lib.ListN.{length, take, drop}
 use Rattle.scope.specs.Words.{_above_, _below_}
-use Rattle.scope.specs.Refusals.{SHORT, LENGTH, number, Refusal, Verdict, pass, refuse, refuse-if, _otherwise_, _and-then_}
+use Rattle.scope.specs.Refusals.{SHORT, LENGTH, number, Refusal, Verdict, pass, refuse, refuse-if, _otherwise_}
 use Rattle.scope.specs.Book.{two-byte, book-of}
 use Rattle.scope.specs.Steps.{Registers, Outcome, FINISHED, OUT-OF-STEPS, FULL, End}
 use Rattle.scope.specs.Flattening.{flat-program, flattens-verdict}
@@ -18,10 +18,6 @@ use Rattle.scope.specs.Page.{registers-length, registers-of}
 -- The program reads standard input: a book and then 74 bytes (routine, 32 registers, two bytes each; budget, eight bytes; low byte first).
 abbrev pub trailer-length : ℕ
 trailer-length = 74
-
--- Under 74 bytes prints "REFUSED 1 0"; over 16,598 prints "REFUSED 5 0"; both before any other check.
-abbrev pub most-input : ℕ
-most-input = 16598
 
 -- the last 74 bytes are the trailer, whatever the header says
 unfoldable pub book-read : List ℕ → List ℕ
@@ -68,7 +64,8 @@ print-line [] = 10 ∷ []
 print-line (f ∷ []) = f ++ (10 ∷ [])
 print-line (f ∷ g ∷ fs) = f ++ (32 ∷ print-line (g ∷ fs))
 
--- .. and outcomes print under their names above. A FULL line has the register as its last number.
+-- .. and outcomes print under their names above. A FULL line has the register as its last number, so C at budget 3 gives "FULL 2 2 3" and
+-- then "R3 65535".
 unfoldable pub outcome-line : Outcome → (steps line : ℕ) → List ℕ
 outcome-line FINISHED s l = print-line (ascii "FINISHED" ∷ decimal s ∷ decimal l ∷ [])
 outcome-line OUT-OF-STEPS s l = print-line (ascii "OUT OF STEPS" ∷ decimal s ∷ decimal l ∷ [])
@@ -83,7 +80,7 @@ unfoldable pub register-lines : (j : ℕ) → Registers → List ℕ
 register-lines j [] = []
 register-lines j (v ∷ vs) = register-line j v ++ register-lines (suc j) vs
 
--- .. and prints outcome, steps and line, then ..
+-- what is printed of a run
 unfoldable pub print-run : End ℕ → List ℕ
 print-run e = outcome-line (e .outcome) (e .steps) (e .place) ++ register-lines 0 (e .registers)
 
@@ -93,13 +90,17 @@ print-refusal x = print-line (ascii "REFUSED" ∷ decimal (number (x .name)) ∷
 
 -- ---- the program
 
+-- Under 74 bytes prints "REFUSED 1 0"; over 16,598 prints "REFUSED 5 0"; both before any other check.
+abbrev pub most-input : ℕ
+most-input = 16598
+
 unfoldable pub shop-verdict : List ℕ → Verdict
 shop-verdict input =
     refuse-if (length input below trailer-length) SHORT 0 otherwise
     refuse-if (length input above most-input) LENGTH 0 otherwise
     flattens-verdict (book-read input) (routine-read input)
 
--- It flattens, runs from line 0 ..
+-- It flattens, runs from line 0 and prints outcome, steps and line, then one line for each register that isn't 0 ..
 unfoldable pub shop-run : List ℕ → End ℕ
 shop-run input = flat-run (flat-program (book-of (book-read input)) (routine-read input)) 0 (budget-read input) (registers-read input)
 
