@@ -1,10 +1,10 @@
 -- Document 01, "The book": its bytes, the ordered tests 1 to 10, the book that the bytes say, and reading one line of it.
 -- Bytes are a list of numbers below 256. Above this file a book is a list of routines, and a routine a list of lines. Assumes nothing.
-use Prim.Native.Nat.{ℕ, zero, suc, _+_, _-_, _*_, _/_, _%_}
+use Prim.Native.Nat.{ℕ, zero, suc, _+_, _-_, _*_, _/_, _%_, _<_}
 use mathlib.Core.Bool.{Bool, false}
 use mathlib.Core.Path.{_≡_}
 use mathlib.Core.List.{List, [], _∷_, _++_}
-use lib.ListN.{length, getD}
+use lib.ListN.{length, getD, drop}
 use Rattle.scope.specs.Words.{_is_, _is-not_, _above_, _below_, _not-below_, _or_, if, listed}
 use Rattle.scope.specs.Refusals.{SHORT, FORMAT, COUNTS, OFFSETS, LENGTH, ROUTINE, KIND, REGISTER, TARGET, CALLEE, NO-ROUTINE, LINE, Verdict, pass, refuse-if, _otherwise_, _and-then_, first, Answer, answer-of}
 
@@ -271,8 +271,25 @@ used nothing said (GO-TO t) = nothing
 used nothing said (CALL c) = said c
 used nothing said (REPEAT r c) = said c
 
--- CALL and REPEAT name only a routine with a number below their own. So what is said of a routine by what is said of those that it uses
--- is said from the lowest up: `rule` says it of routine k, handed what was said of the routines below it.
+-- A line uses a routine by CALL or REPEAT, ..
+pub data Line-uses : Line → ℕ → Type 0 where
+  by-CALL : {c : ℕ} → Line-uses (CALL c) c
+  by-REPEAT : {r c : ℕ} → Line-uses (REPEAT r c) c
+
+-- .. and a routine uses those that its lines use.
+pub record Uses (book : Book) (k c : ℕ) : Type 0 where
+  pub at-line : ℕ
+  pub line : Line
+  pub rest : List Line
+  pub stands : drop at-line (routine book k) ≡ line ∷ rest
+  pub line-uses : Line-uses line c
+
+-- CALL and REPEAT name only a routine with a number below their own.
+unfoldable pub Callees-below : Book → Type 0
+Callees-below book = (k c : ℕ) → Uses book k c → c < k
+
+-- So what is said of a routine by what is said of those that it uses is said from the lowest up: `rule` says it of routine k, handed
+-- what was said of the routines below it.
 unfoldable pub said-below : {A : Type 0} → (nothing : A) → (rule : (ℕ → A) → ℕ → A) → (bound : ℕ) → ℕ → A
 said-below nothing rule zero k = nothing
 said-below nothing rule (suc bound) k = rule (said-below nothing rule bound) k
