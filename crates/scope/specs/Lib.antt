@@ -23,6 +23,7 @@ pub mod Running
 pub mod Quote
 -- "Numbers of refusal"
 pub mod Refusals
+pub mod Given
 -- "The shop's program and the page"
 pub mod Page
 pub mod Shop
