@@ -2,7 +2,6 @@
 -- Each test tells the table's words, a row of tests is taken apart test by test, and routines lie in order. Assumes nothing.
 use Prim.Native.Nat.{ℕ, zero, suc, _+_, _<_, _≤_}
 use native.Mathlib.Omega.{arith}
-use mathlib.Core.Bool.{Bool}
 use mathlib.Core.Path.{_≡_, _∙_, ap, subst}
 use mathlib.Core.Logic.{_↔_, inl, inr, ⊎-elim}
 use mathlib.Core.List.{List}
@@ -11,13 +10,9 @@ use Rattle.scope.specs.Words.{_is_, _is-not_, _below_, _or_}
 use Rattle.scope.specs.Refusals.{Refusal, pass, refuse, first}
 use Rattle.scope.specs.Book.{the-format, most-routines, most-lines, header-bytes, last-register, format, routines, lines, routine-table, line-table, stated-length, line-table-due, length-due, counts-wrong, offsets-wrong, header-test, header-verdict, first-line, count, first-line-due, entry-verdict, table-verdict, Line-fields, INC-kind, DEC-kind, GO-TO-kind, CALL-kind, REPEAT-kind, kind-wrong, register-wrong, target-wrong, callee-wrong, line-test, line-number, fields-in, line-verdict, routine-verdict, lines-verdict, book-verdict, Taken}
 use Rattle.scope.specs.Given.{Short, Wrong-format, Wrong-counts, Wrong-offsets, Wrong-length, Wrong-entry, Wrong-end, Wrong-kind, Zero-stands, Wrong-register, Has-target, Wrong-target, Has-callee, Wrong-callee, Good-in, Good-book, Past-SHORT, Past-FORMAT, Past-COUNTS, Past-OFFSETS, Past-LENGTH, Past-entries, Past-ROUTINE, Comes-to, Past-KIND, Past-REGISTER, Past-TARGET, Given, gives-SHORT, gives-FORMAT, gives-COUNTS, gives-OFFSETS, gives-LENGTH, gives-ROUTINE, gives-ROUTINE-last, gives-KIND, gives-REGISTER, gives-TARGET, gives-CALLEE}
-use Rattle.scope.proofs.Verdicts.{Tells, one-holds, not-both, else-holds, in-words, above-tells, below-tells, not-below-tells, is-tells, is-not-tells, never-tells, if-tells, or-tells, pass-is-no-refusal, refuses, goes-on, which-refuses, finds-no-fault, then-goes-on, then-refuses, which-then-refuses, then-passes, first-passes, first-refuses}
+use Rattle.scope.proofs.Verdicts.{Tells, one-holds, else-holds, in-words, no-fault, above-tells, below-tells, not-below-tells, is-tells, is-not-tells, never-tells, if-tells, or-tells, pass-is-no-refusal, refuses, goes-on, which-refuses, finds-no-fault, then-goes-on, then-refuses, which-then-refuses, then-passes, first-passes, first-refuses}
 
 -- ---- the tests in the table's words
-
--- A test that tells a fault is false exactly when there is no such fault.
-no-fault : {t : Bool} {P Q : Type 0} → Tells t P Q → Tells t P (¬ P)
-no-fault i = in-words i (λ p. p) (λ q p. not-both i p q) (λ p n. n p)
 
 short-tells : (b : List ℕ) → Tells (length b below header-bytes) (Short b) (¬ Short b)
 unfolding Short

@@ -6,3 +6,4 @@ pub mod Refused
 pub mod Sizes
 pub mod Verdicts
 pub mod GivenExactlyWhen
+pub mod GivenByCalls

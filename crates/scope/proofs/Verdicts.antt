@@ -49,6 +49,10 @@ in-words {t = false} i f g apart =
       when-false = (λ e. g (i .when-false .0 refl), λ q. refl);
     }
 
+-- A test that tells a fault is false exactly when there is no such fault.
+pub no-fault : {t : Bool} {P Q : Type 0} → Tells t P Q → Tells t P (¬ P)
+no-fault i = in-words i (λ p. p) (λ q p. not-both i p q) (λ p n. n p)
+
 pub above-tells : (m n : ℕ) → Tells (m above n) (n < m) (m ≤ n)
 above-tells m n = record { when-true = (ltb-true n m, lt-ltb n m); when-false = (ltb-false n m, le-ltb n m) }
 
@@ -75,6 +79,9 @@ not-tells {t = false} i =
 
 pub is-not-tells : (m n : ℕ) → Tells (m is-not n) (m ≢ n) (m ≡ n)
 is-not-tells m n = not-tells (is-tells m n)
+
+pub itself-tells : (t : Bool) → Tells t (t ≡ true) (t ≡ false)
+itself-tells t = record { when-true = (λ e. e, λ e. e); when-false = (λ e. e, λ e. e) }
 
 pub never-tells : Tells false ⊥ (Unit {0})
 never-tells = record { when-true = (λ e. false≢true e, λ x. absurd x); when-false = (λ e. tt, λ x. refl) }

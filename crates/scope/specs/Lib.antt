@@ -24,6 +24,7 @@ pub mod Quote
 -- "Numbers of refusal"
 pub mod Refusals
 pub mod Given
+pub mod GivenByCalls
 -- "The shop's program and the page"
 pub mod Page
 pub mod Shop
