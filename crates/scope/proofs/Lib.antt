@@ -7,3 +7,5 @@ pub mod Sizes
 pub mod Verdicts
 pub mod GivenExactlyWhen
 pub mod GivenByCalls
+pub mod Listed
+pub mod TakenBook

@@ -114,6 +114,12 @@ and-tells {s = false} i j =
     let p = i .when-false .0 refl in
     in-words i (λ q. absurd (not-both i q p)) (λ q. inl q) (λ q x. not-both i (q .0) p)
 
+-- what holds of both ways of an `if`
+pub either-way : {A : Type 0} {t : Bool} {P Q : Type 0} {a b : A} (C : A → Type 0) → Tells t P Q → (P → C a) → (Q → C b) → C (if t a b)
+unfolding if
+either-way {t = true} C i f g = f (i .when-true .0 refl)
+either-way {t = false} C i f g = g (i .when-false .0 refl)
+
 -- ---- tests in order
 
 pub pass-is-no-refusal : {x : Refusal} → pass ≡ refuse x → ⊥
