@@ -4,3 +4,4 @@ pub mod Samples
 pub mod Calls
 pub mod Refused
 pub mod Sizes
+pub mod Lowest
