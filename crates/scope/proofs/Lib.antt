@@ -5,3 +5,4 @@ pub mod Calls
 pub mod Refused
 pub mod Sizes
 pub mod Lowest
+pub mod FlatLines
