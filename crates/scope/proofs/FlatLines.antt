@@ -94,6 +94,10 @@ module _ (book : Book) where
   length-line = length-copy-line (copy book) (flat-length book) length-copy
 
   -- A line starts at the sum of the lengths before it.
+  pub first-start : (k : ℕ) → start book k 0 ≡ 0
+  unfolding start sum-of
+  first-start k = refl
+
   pub next-start : {l : Line} {rest : List Line} (k i : ℕ) → drop i (routine book k) ≡ l ∷ rest → start book k (suc i) ≡ start book k i + line-length (flat-length book) l
   unfolding start
   next-start k i e = sum-to-the-next (line-length (flat-length book)) (routine book k) i e

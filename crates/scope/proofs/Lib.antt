@@ -6,3 +6,4 @@ pub mod Refused
 pub mod Sizes
 pub mod Lowest
 pub mod FlatLines
+pub mod Places
