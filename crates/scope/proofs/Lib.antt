@@ -7,3 +7,4 @@ pub mod Sizes
 pub mod Lowest
 pub mod FlatLines
 pub mod Places
+pub mod Simulation
