@@ -8,3 +8,4 @@ pub mod Lowest
 pub mod FlatLines
 pub mod Places
 pub mod Simulation
+pub mod Moves

@@ -31,3 +31,4 @@ pub mod Cases
 pub mod Samples
 -- words that the laws of proofs/ need and the paper's definitions do not
 pub mod Addresses
+pub mod Moves
