@@ -3,8 +3,9 @@
 use Prim.Native.Nat.{ℕ, zero, suc, _+_}
 use native.Mathlib.Omega.{arith}
 use mathlib.Core.Path.{_≡_, refl, sym, _∙_, ap}
-use mathlib.Core.List.{List, [], _∷_, _++_}
+use mathlib.Core.List.{List, [], _∷_, _++_, append-assoc}
 use lib.ListN.{length, take, drop, length-append}
+use lib.Seq.{drop-drop, drop-append-seam}
 use Rattle.scope.specs.Ram.{Instruction, Program}
 use Rattle.scope.specs.Book.{Line, INC, DEC, GO-TO, CALL, REPEAT, Book, routine, Callees-below, said-below, from-the-lowest-up}
 use Rattle.scope.specs.Flattening.{line-length, sum-of, length-by, flat-length, start, copy-line, copy-lines, copy-by, copy, flat-program}
@@ -12,35 +13,10 @@ use Rattle.scope.proofs.Lowest.{flat-length-by-the-rule, copy-by-the-ru
 
 -- ---- lists
 
-pub append-nothing : {A : Type 0} (xs : List A) → xs ++ [] ≡ xs
-append-nothing [] = refl
-append-nothing (x ∷ xs) = rw (append-nothing xs) refl
-
-pub append-assoc : {A : Type 0} (xs ys zs : List A) → (xs ++ ys) ++ zs ≡ xs ++ (ys ++ zs)
-append-assoc [] ys zs = refl
-append-assoc (x ∷ xs) ys zs = rw (append-assoc xs ys zs) refl
-
-pub drop-further : {A : Type 0} (xs : List A) (m n q : ℕ) → q ≡ m + n → drop q xs ≡ drop n (drop m xs)
-drop-further xs zero n q e = let z : q ≡ n = omega arith in rw z refl
-drop-further [] (suc m) zero zero e = refl
-drop-further [] (suc m) zero (suc q) e = refl
-drop-further [] (suc m) (suc n) zero e = refl
-drop-further [] (suc m) (suc n) (suc q) e = refl
-drop-further (x ∷ xs) (suc m) n zero e = absurd (omega arith)
-drop-further (x ∷ xs) (suc m) n (suc q) e = drop-further xs m n q (omega arith)
-
 pub drop-tail : {A : Type 0} {x : A} {xs : List A} (ls : List A) (i : ℕ) → drop i ls ≡ x ∷ xs → drop (suc i) ls ≡ xs
-drop-tail {A} {x} {xs} ls i e = drop-further ls i 1 (suc i) (omega arith) ∙ ap (drop 1) e
-
-drop-front : {A : Type 0} (xs ys : List A) → drop (length xs) (xs ++ ys) ≡ ys
-drop-front [] ys = refl
-drop-front (x ∷ xs) ys = drop-front xs ys
-
-pub drop-all : {A : Type 0} (xs : List A) (n : ℕ) → n ≡ length xs → drop n xs ≡ []
-drop-all [] zero e = refl
-drop-all [] (suc n) e = refl
-drop-all (x ∷ xs) zero e = absurd (omega arith)
-drop-all (x ∷ xs) (suc n) e = drop-all xs n (omega arith)
+drop-tail ls i e =
+    let z : suc i ≡ i + 1 = omega arith in
+    rw z (sym (drop-drop 1 i ls) ∙ ap (drop 1) e)
 
 -- ---- sums up to a line
 
@@ -117,7 +93,8 @@ module _ {P : Program} {p : ℕ} where
   rest-stands xs ys q s e =
       record {
         behind = s .behind;
-        there = drop-further P p (length xs) q e ∙ ap (drop (length xs)) (s .there ∙ append-assoc xs ys (s .behind)) ∙ drop-front xs (ys ++ s .behind);
+        there = rw e
+            (sym (drop-drop (length xs) p P) ∙ ap (drop (length xs)) (s .there ∙ append-assoc xs ys (s .behind)) ∙ drop-append-seam xs (ys ++ s .behind));
       }
 
 module _ (book : Book) (ok : Callees-below book) where

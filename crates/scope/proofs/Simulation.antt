@@ -4,8 +4,9 @@ use Prim.Native.Nat.{ℕ, zero, suc, _+_}
 use native.Mathlib.Omega.{arith}
 use mathlib.Core.Bool.{Bool, true, false}
 use mathlib.Core.Path.{_≡_, refl, sym, _∙_}
-use mathlib.Core.List.{List, [], _∷_, _++_}
-use lib.ListN.{length, drop}
+use mathlib.Core.List.{List, [], _∷_, _++_, append-nil}
+use lib.ListN.{drop}
+use lib.Seq.{drop-length}
 use Rattle.scope.specs.Words.{_is_, if}
 use Rattle.scope.specs.Ram as ram
 use Rattle.scope.specs.Ram.{Program}
@@ -15,7 +16,7 @@ use Rattle.scope.specs.Nested.{Opened-by, a-CALL, a-REPEAT, Step, inc, d
 use Rattle.scope.specs.Flattening.{line-length, flat-length, start, copy-line, copy, flat-program}
 use Rattle.scope.specs.Running.{flat-step, flat-next, flat-run}
 use Rattle.scope.specs.Addresses.{begins, behind-its-start, address}
-use Rattle.scope.proofs.FlatLines.{append-nothing, drop-all, length-copy, length-flat-program, first-start, next-start, Stands, front-stands, rest-stands, line-stands}
+use Rattle.scope.proofs.FlatLines.{length-copy, length-flat-program, first-start, next-start, Stands, front-stands, rest-stands, line-stands}
 use Rattle.scope.proofs.Places.{does-inc, does-dec, does-go-to, does-look, does-go-back, Is-open, the-asked, called, repeated, Reached, the-end, a-step, Reached-at, settle-keeps-address}
 
 module _ (book : Book) (asked : ℕ) where
@@ -65,7 +66,7 @@ module _ (book : Book) (ok : Callees-below book) (asked : ℕ) where
   -- The copy of an open routine stands where it begins.
   copy-stands : {k : ℕ} {around : List Opened-by} → Is-open book asked k around → Stands flat (begins book around) (copy book k (begins book around))
   unfolding begins flat-program copy-line
-  copy-stands the-asked = record { behind = []; there = sym (append-nothing (copy book asked 0)) }
+  copy-stands the-asked = record { behind = []; there = sym (append-nil (copy book asked 0)) }
   copy-stands {around = a-CALL k i ∷ around} (called e o) = line-stands book ok k i (copy-stands o) e refl
   copy-stands {around = a-REPEAT k i ∷ around} (repeated {r = r} {c = c} e o) =
       let p = begins book around + start book k i in
@@ -85,7 +86,7 @@ module _ (book : Book) (ok : Callees-below book) (asked : ℕ) where
 
   same-next-at : {place : Place} (p : ℕ) (rs : Registers) → Reached book asked place → address book asked place ≡ p → Same-next book asked (flat-next flat p rs) (nested-next book place rs)
   unfolding address behind-its-start nested-next nested-step copy-line flat-step line-length flat-next begins
-  same-next-at p rs the-end a = rw (drop-all flat p (sym a ∙ sym (length-flat-program book asked))) both-at-the-end
+  same-next-at p rs the-end a = rw (sym a ∙ sym (length-flat-program book asked), drop-length flat) both-at-the-end
   same-next-at {place = due d k i around} p rs (a-step e (does-inc {r = r}) o) a =
       rw (flat-next-there rs (ram.INC r) [] (left-stands i p e o (omega arith))) (both-add-one book asked r rs (goes-on i (suc p) e o (omega arith)))
   same-next-at {place = due d k i around} p rs (a-step e (does-dec {r = r} {t = t}) o) a =
