@@ -9,3 +9,8 @@ pub mod GivenExactlyWhen
 pub mod GivenByCalls
 pub mod Listed
 pub mod TakenBook
+pub mod Lowest
+pub mod FlatLines
+pub mod Places
+pub mod Simulation
+pub mod Moves

@@ -110,9 +110,9 @@ unfolding routine-of
 length-routine-of b r = length-listed _ 0 (count b r)
 
 -- Line j of routine r stands at j, and behind it the lines after it.
-pub line-stands : (b : List ℕ) (r j : ℕ) → j < count b r → drop j (routine-of b r) ≡ line-of (fields-in b r j) ∷ drop (suc j) (routine-of b r)
+pub stands-in-its-routine : (b : List ℕ) (r j : ℕ) → j < count b r → drop j (routine-of b r) ≡ line-of (fields-in b r j) ∷ drop (suc j) (routine-of b r)
 unfolding routine-of listed
-line-stands b r j h =
+stands-in-its-routine b r j h =
     let rule : ℕ → Line = λ i. line-of (fields-in b r i) in
     listed-from rule 0 (count b r) j j (suc (count b r - suc j)) (omega arith) (omega arith)
     ∙ ap (λ ls. line-of (fields-in b r j) ∷ ls) (sym (listed-from rule 0 (count b r) (suc j) (suc j) (count b r - suc j) (omega arith) (omega arith)))
@@ -133,7 +133,7 @@ what-stands b k j {l} e =
     ⊎-elim (λ (h : k < routines b).
     let f = rw (routine-in-the-book b k h) at e in
     ⊎-elim (λ (g : j < count b k).
-    let s = line-stands b k j g in
+    let s = stands-in-its-routine b k j g in
     let z : l ≡ line-of (fields-in b k j) = cc in
     record { in-the-book = h; in-the-routine = g; the-line = z })
     (λ (g : count b k ≤ j). nothing-stands (sym (drop-of-length-le (routine-of b k) {i = j} (rw (length-routine-of b k) g)) ∙ f)) (one-holds (below-tells j (count b k))))
