@@ -14,3 +14,6 @@ pub mod FlatLines
 pub mod Places
 pub mod Simulation
 pub mod Moves
+pub mod OneRoutine
+pub mod WrittenBook
+pub mod FlatBook
