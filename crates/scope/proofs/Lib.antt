@@ -5,6 +5,7 @@ pub mod Calls
 pub mod Refused
 pub mod Sizes
 pub mod Verdicts
+pub mod Tests
 pub mod GivenExactlyWhen
 pub mod GivenByCalls
 pub mod Listed
