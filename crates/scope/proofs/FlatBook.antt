@@ -7,7 +7,7 @@ use mathlib.Core.List.{List, [], _∷_, _++_}
 use lib.ListN.{length, take, drop}
 use Rattle.scope.specs.Ram as ram
 use Rattle.scope.specs.Ram.{Instruction, Program, Has, has, Target-within, Targets-within}
-use Rattle.scope.specs.Book.{routines, Line, routine, Taken, book-of}
+use Rattle.scope.specs.Book.{routines, Line, Book, routine, Callees-below, Taken, book-of}
 use Rattle.scope.specs.Flattening.{line-length, sum-of, length-by, flat-length, start, copy-line, copy-lines, copy-by, copy, flat-program, flat-book, most-flat-lines}
 use Rattle.scope.specs.FlatBook.{Register-within, Registers-within, Fits-a-book, Says, Bytes}
 use Rattle.scope.proofs.Lowest.{flat-length-by-the-rule, copy-by-the-rule}
@@ -50,57 +50,75 @@ up-to-a-line f ls zero = omega arith
 up-to-a-line f [] (suc i) = omega arith
 up-to-a-line f (l ∷ ls) (suc i) = omega (arith, up-to-a-line f ls i)
 
-module _ (b : List ℕ) (t : Taken b) where
-  start-within : (k i : ℕ) → start (book-of b) k i ≤ flat-length (book-of b) k
+-- of a book whose lines fit
+module _ (book : Book) (ok : Callees-below book)
+    (each : (k j : ℕ) (l : Line) (rest : List Line) → drop j (routine book k) ≡ l ∷ rest → Line-fits k (length (routine book k)) l) where
+  start-within : (k i : ℕ) → start book k i ≤ flat-length book k
   unfolding start length-by
-  start-within k i = rw (flat-length-by-the-rule (book-of b) (taken-callees-below b t) k) (up-to-a-line (line-length (flat-length (book-of b))) (routine (book-of b) k) i)
+  start-within k i = rw (flat-length-by-the-rule book ok k) (up-to-a-line (line-length (flat-length book)) (routine book k) i)
 
-  -- what is to be shown of the copies of the routines below k
+  -- the copies of the routines below k fit, wherever they end within n
   abbrev Copies-below-fit : (k n : ℕ) → Type 0
-  Copies-below-fit k n = (c q : ℕ) → c < k → q + flat-length (book-of b) c ≤ n → All-fit n (copy (book-of b) c q)
+  Copies-below-fit k n = (c q : ℕ) → c < k → q + flat-length book c ≤ n → All-fit n (copy book c q)
 
-  line-fits : (k a p n m : ℕ) {l : Line} → Line-fits k m l → Copies-below-fit k n → a + flat-length (book-of b) k ≤ n → p + line-length (flat-length (book-of b)) l ≤ n
-      → All-fit n (copy-line (book-of b) (copy (book-of b)) k a p l)
+  line-fits : (k a p n m : ℕ) {l : Line} → Line-fits k m l → Copies-below-fit k n → a + flat-length book k ≤ n
+      → p + line-length (flat-length book) l ≤ n → All-fit n (copy-line book (copy book) k a p l)
   unfolding copy-line line-length Register-within Target-within
   line-fits k a p n m (INC-fits r) below h g = one-more (record { register-right = r; target-right = tt }) none
-  line-fits k a p n m (DEC-fits {t = l} r _) below h g = one-more {x = ram.DEC _ (a + start (book-of b) k l)} (record { register-right = r; target-right = omega (arith, start-within k l) }) none
-  line-fits k a p n m (GO-TO-fits {t = l} _) below h g = one-more {x = ram.GO-TO (a + start (book-of b) k l)} (record { register-right = tt; target-right = omega (arith, start-within k l) }) none
+  line-fits k a p n m (DEC-fits {t} r _) below h g =
+      one-more {x = ram.DEC _ (a + start book k t)} (record { register-right = r; target-right = omega (arith, start-within k t) }) none
+  line-fits k a p n m (GO-TO-fits {t} _) below h g =
+      one-more {x = ram.GO-TO (a + start book k t)} (record { register-right = tt; target-right = omega (arith, start-within k t) }) none
   line-fits k a p n m (CALL-fits {c} lower) below h g = below c p lower g
-  line-fits k a p n m (REPEAT-fits {c = c} r lower) below h g =
-      one-more {x = ram.DEC _ (p + flat-length (book-of b) c + 2)} (record { register-right = r; target-right = omega arith }) (both-fit (below c (p + 1) lower (omega arith)) (one-more {x = ram.GO-TO p} (record { register-right = tt; target-right = omega arith }) none))
+  line-fits k a p n m (REPEAT-fits {c} r lower) below h g =
+      one-more {x = ram.DEC _ (p + flat-length book c + 2)} (record { register-right = r; target-right = omega arith })
+      (both-fit (below c (p + 1) lower (omega arith))
+      (one-more {x = ram.GO-TO p} (record { register-right = tt; target-right = omega arith }) none))
 
-  lines-fit : (k a p n m : ℕ) (ls : List Line) → ((j : ℕ) (l : Line) (rest : List Line) → drop j ls ≡ l ∷ rest → Line-fits k m l) → Copies-below-fit k n
-      → a + flat-length (book-of b) k ≤ n → p + sum-of (line-length (flat-length (book-of b))) ls ≤ n → All-fit n (copy-lines (book-of b) (copy (book-of b)) k a p ls)
+  lines-fit : (k a p n m : ℕ) (ls : List Line) → ((j : ℕ) (l : Line) (rest : List Line) → drop j ls ≡ l ∷ rest → Line-fits k m l)
+      → Copies-below-fit k n → a + flat-length book k ≤ n → p + sum-of (line-length (flat-length book)) ls ≤ n
+      → All-fit n (copy-lines book (copy book) k a p ls)
   unfolding copy-lines sum-of
-  lines-fit k a p n m [] each below h g = none
-  lines-fit k a p n m (l ∷ ls) each below h g =
-      both-fit (line-fits k a p n m (each 0 l ls refl) below h (omega arith)) (lines-fit k a (p + line-length (flat-length (book-of b)) l) n m ls (λ j. each (suc j)) below h (omega arith))
+  lines-fit k a p n m [] fit below h g = none
+  lines-fit k a p n m (l ∷ ls) fit below h g =
+      let next = p + line-length (flat-length book) l in
+      both-fit (line-fits k a p n m (fit 0 l ls refl) below h (omega arith))
+      (lines-fit k a next n m ls (λ j. fit (suc j)) below h (omega arith))
 
-  copy-fits : (bound k a n : ℕ) → k < bound → a + flat-length (book-of b) k ≤ n → All-fit n (copy (book-of b) k a)
+  copy-fits : (bound k a n : ℕ) → k < bound → a + flat-length book k ≤ n → All-fit n (copy book k a)
   unfolding copy-by length-by
   copy-fits zero k a n low h = absurd (omega arith)
   copy-fits (suc bound) k a n low h =
-      rw (copy-by-the-rule (book-of b) (taken-callees-below b t) k)
-      (lines-fit k a a n (length (routine (book-of b) k)) (routine (book-of b) k) (λ j l rest e. taken-lines-fit b t k j e) (λ c q lower g. copy-fits bound c q n (omega arith) g) h (omega (arith, flat-length-by-the-rule (book-of b) (taken-callees-below b t) k)))
+      rw (copy-by-the-rule book ok k)
+      (lines-fit k a a n (length (routine book k)) (routine book k) (each k) (λ c q lower g. copy-fits bound c q n (omega arith) g) h
+      (omega (arith, flat-length-by-the-rule book ok k)))
 
+-- ---- the result
+
+stands : {n : ℕ} {P : Program} (p : ℕ) (x : Instruction) → All-fit n P → Has P p x → Fits n x
+stands p x f (has e) = each-fits p f e
+
+module _ (b : List ℕ) (t : Taken b) (k : ℕ) where
   -- A flat program of at most 4,096 lines fits a book.
-  pub flat-program-fits : (k : ℕ) → flat-length (book-of b) k ≤ most-flat-lines → Fits-a-book (flat-program (book-of b) k)
+  pub flat-program-fits : flat-length (book-of b) k ≤ most-flat-lines → Fits-a-book (flat-program (book-of b) k)
   unfolding flat-program Targets-within Registers-within
-  flat-program-fits k h =
-      let all = copy-fits (suc k) k 0 (length (flat-program (book-of b) k)) (omega arith) (omega (arith, length-flat-program (book-of b) k)) in
+  flat-program-fits h =
+      let P = flat-program (book-of b) k in
+      let long = length-flat-program (book-of b) k in
+      let all =
+      copy-fits (book-of b) (taken-callees-below b t) (λ k j l rest. taken-lines-fit b t k j) (suc k) k 0 (length P) (omega arith)
+      (omega (arith, long)) in
       record {
-        targets-within = λ p x s. stands p x s all .target-right;
-        registers-within = λ p x s. stands p x s all .register-right;
-        not-too-long = rw (length-flat-program (book-of b) k) h;
+        targets-within = λ p x s. stands p x all s .target-right;
+        registers-within = λ p x s. stands p x all s .register-right;
+        not-too-long = rw long h;
       }
-    where
-      stands : {n : ℕ} {P : Program} (p : ℕ) (x : Instruction) → Has P p x → All-fit n P → Fits n x
-      stands p x (has e) f = each-fits p f e
 
   -- The result is a book with one routine, and it says the flat program.
-  pub flat-book-is-taken : (k : ℕ) → flat-length (book-of b) k ≤ most-flat-lines → Says (flat-book (flat-program (book-of b) k)) (flat-program (book-of b) k)
-  flat-book-is-taken k h = written-says-it (flat-program (book-of b) k) (flat-program-fits k h)
+  pub flat-book-is-taken : flat-length (book-of b) k ≤ most-flat-lines
+      → Says (flat-book (flat-program (book-of b) k)) (flat-program (book-of b) k)
+  flat-book-is-taken h = written-says-it (flat-program (book-of b) k) (flat-program-fits h)
 
-  -- Flattening routine 0 of a flat book gives back its very bytes.
-  pub flat-book-is-its-own-flat-book : routines b ≡ 1 → Bytes b → flat-book (flat-program (book-of b) 0) ≡ b
-  flat-book-is-its-own-flat-book one bytes = ap flat-book (flattening-changes-nothing b t one) ∙ writing-after-reading b bytes t one
+-- Flattening routine 0 of a flat book gives back its very bytes.
+pub flat-book-is-its-own-flat-book : (b : List ℕ) → Taken b → routines b ≡ 1 → Bytes b → flat-book (flat-program (book-of b) 0) ≡ b
+flat-book-is-its-own-flat-book b t one bytes = ap flat-book (flattening-changes-nothing b t one) ∙ writing-after-reading b bytes t one

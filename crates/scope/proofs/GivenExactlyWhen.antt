@@ -60,7 +60,8 @@ table-gives b x h e =
     ⊎-elim (λ f.
     let w = first-refuses (entry-verdict b) (routines b) x .0 f in
     let right : (q : ℕ) → q < w .at → ¬ Wrong-entry b q = λ q l. entry-passes b q .0 (w .all-before-pass q l) in
-    which-refuses (Given b) (entry-tells b (w .at)) (gives-ROUTINE (w .at) (h, right) (w .within)) (λ n p. absurd (pass-is-no-refusal p)) (w .is-refused))
+    which-refuses (Given b) (entry-tells b (w .at)) (gives-ROUTINE (w .at) (h, right) (w .within))
+    (λ n p. absurd (pass-is-no-refusal p)) (w .is-refused))
     (λ f.
     let right = entries-pass b (routines b) .0 (f .0) in
     which-refuses (Given b) (end-tells b) (gives-ROUTINE-last (h, right)) (λ n p. absurd (pass-is-no-refusal p)) (f .1))
@@ -217,7 +218,8 @@ given-refuses b x (gives-LENGTH o w) =
     ∙ goes-on _ _ (offsets-tells b) (o .1)
     ∙ refuses _ _ (length-tells b) w)
 given-refuses b x (gives-ROUTINE r h l w) =
-    in-the-table b (h .0) (then-refuses _ (first-hit (entry-verdict b) (routines b) r l (entries-pass b r .1 (h .1)) (refuses _ _ (entry-tells b r) w)))
+    in-the-table b (h .0)
+    (then-refuses _ (first-hit (entry-verdict b) (routines b) r l (entries-pass b r .1 (h .1)) (refuses _ _ (entry-tells b r) w)))
 given-refuses b x (gives-ROUTINE-last h w) =
     in-the-table b (h .0) (then-goes-on _ (entries-pass b (routines b) .1 (h .1)) ∙ refuses _ _ (end-tells b) w)
 given-refuses b x (gives-KIND r j h w) = in-the-lines b r j h (refuses _ _ (kind-tells (fields-in b r j)) w)

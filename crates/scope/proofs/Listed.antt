@@ -1,4 +1,4 @@
--- A list by the rule of its members: how long it is, what stands at a place, what stands from a place on, and lists by equal rules.
+-- A list by the rule of its members: how long it is, what stands at a place, and which list it is.
 -- Each by the number of members; places are given as sums, so that nothing has to compute. Assumes nothing.
 use Prim.Native.Nat.{ℕ, zero, suc, _+_, _<_}
 use native.Mathlib.Omega.{arith}
@@ -19,16 +19,8 @@ module _ {A : Type 0} where
   listed-at f i (suc n) zero k d h e = ap f (omega arith)
   listed-at f i (suc n) (suc j) k d h e = listed-at f (suc i) n j k d (omega arith) (omega arith)
 
-  pub listed-from : (f : ℕ → A) (i n j k m : ℕ) → k ≡ i + j → n ≡ j + m → drop j (listed f i n) ≡ listed f k m
-  unfolding listed
-  listed-from f i n zero k m e h =
-      let same : i ≡ k = omega arith in
-      let long : n ≡ m = omega arith in
-      ap (λ x. listed f x n) same ∙ ap (listed f k) long
-  listed-from f i zero (suc j) k m e h = absurd (omega arith)
-  listed-from f i (suc n) (suc j) k m e h = listed-from f (suc i) n j k m (omega arith) (omega arith)
-
-  pub listed-member : (f : ℕ → A) (i n j k : ℕ) {x : A} {rest : List A} → drop j (listed f i n) ≡ x ∷ rest → k ≡ i + j → (j < n) × (x ≡ f k)
+  pub listed-member : (f : ℕ → A) (i n j k : ℕ) {x : A} {rest : List A} → drop j (listed f i n) ≡ x ∷ rest → k ≡ i + j
+      → (j < n) × (x ≡ f k)
   unfolding listed
   listed-member f i zero zero k e h =
       let y : _≡_ {A = ℕ} 0 1 = cc in
@@ -44,7 +36,8 @@ module _ {A : Type 0} where
       (omega (arith, m .0), m .1)
 
   -- a list whose members follow the rule is that list
-  pub listed-is : (f : ℕ → A) (xs : List A) (i n : ℕ) → length xs ≡ n → ((j k : ℕ) (x : A) (rest : List A) → drop j xs ≡ x ∷ rest → k ≡ i + j → f k ≡ x) → listed f i n ≡ xs
+  pub listed-is : (f : ℕ → A) (xs : List A) (i n : ℕ) → length xs ≡ n
+      → ((j k : ℕ) (x : A) (rest : List A) → drop j xs ≡ x ∷ rest → k ≡ i + j → f k ≡ x) → listed f i n ≡ xs
   unfolding listed
   listed-is f [] i zero e h = refl
   listed-is f [] i (suc n) e h = absurd (omega arith)
@@ -53,7 +46,8 @@ module _ {A : Type 0} where
       rw (h 0 i x xs refl (omega arith), listed-is f xs (suc i) n (omega arith) (λ j k y rest d g. h (suc j) k y rest d (omega arith)))
 
 -- a list by the rule of another's members
-pub listed-map : {A B : Type 0} (g : B → A) (f : ℕ → A) (h : ℕ → B) (i n : ℕ) → ((k : ℕ) → k < i + n → f k ≡ g (h k)) → listed f i n ≡ map g (listed h i n)
+pub listed-map : {A B : Type 0} (g : B → A) (f : ℕ → A) (h : ℕ → B) (i n : ℕ) → ((k : ℕ) → k < i + n → f k ≡ g (h k))
+    → listed f i n ≡ map g (listed h i n)
 unfolding listed
 listed-map g f h i zero same = refl
 listed-map g f h i (suc n) same = rw (same i (omega arith), listed-map g f h (suc i) n (λ k l. same k (omega arith)))

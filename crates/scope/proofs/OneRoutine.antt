@@ -44,8 +44,9 @@ only-GO-TO-is-left f n t not-1 not-2 =
 pub fields-again : (f : Line-fields) (n : ℕ) → Taken-line f 0 n → fields-of (as-line (instruction-of f)) ≡ f
 unfolding instruction-of fields-of as-line Zero-stands
 fields-again f n t =
-    either-way (λ x. fields-of (as-line x) ≡ f) (is-tells (f .kind) INC-kind) (λ k. same-fields (sym k) refl (sym (t .INC-operand-0 k))) λ not-1.
-    either-way (λ x. fields-of (as-line x) ≡ f) (is-tells (f .kind) DEC-kind) (λ k. same-fields (sym k) refl refl) λ not-2.
+    let C : Instruction → Type 0 = λ x. fields-of (as-line x) ≡ f in
+    either-way C (is-tells (f .kind) INC-kind) (λ k. same-fields (sym k) refl (sym (t .INC-operand-0 k))) λ not-1.
+    either-way C (is-tells (f .kind) DEC-kind) (λ k. same-fields (sym k) refl refl) λ not-2.
     let k = only-GO-TO-is-left f n t not-1 not-2 in
     same-fields (sym k) (sym (t .zero-where-0-stands (inl k))) refl
 
@@ -110,7 +111,8 @@ module _ (b : List ℕ) (t : Taken b) (one : routines b ≡ 1) where
 
 -- ---- flattening it changes nothing
 
-lines-have-length-1 : (length-of : ℕ → ℕ) (P : Program) (i : ℕ) → i ≤ length P → sum-of (line-length length-of) (take i (map as-line P)) ≡ i
+lines-have-length-1 : (length-of : ℕ → ℕ) (P : Program) (i : ℕ) → i ≤ length P
+    → sum-of (line-length length-of) (take i (map as-line P)) ≡ i
 unfolding sum-of line-length as-line
 lines-have-length-1 length-of P zero h = refl
 lines-have-length-1 length-of [] (suc i) h = absurd (omega arith)
@@ -125,19 +127,24 @@ module _ (book : Book) (copy-of : ℕ → ℕ → Program) (n : ℕ) (starts : (
   line-copied p (ram.DEC r t) h = ap (λ l. ram.DEC r l ∷ []) (omega (arith, starts t h))
   line-copied p (ram.GO-TO t) h = ap (λ l. ram.GO-TO l ∷ []) (omega (arith, starts t h))
 
-  lines-copied : (p : ℕ) (P : Program) → ((i : ℕ) (x : Instruction) → Has P i x → Target-within n x) → copy-lines book copy-of 0 0 p (map as-line P) ≡ P
+  lines-copied : (p : ℕ) (P : Program) → ((i : ℕ) (x : Instruction) → Has P i x → Target-within n x)
+      → copy-lines book copy-of 0 0 p (map as-line P) ≡ P
   unfolding copy-lines
   lines-copied p [] h = refl
   lines-copied p (x ∷ P) h =
-      rw (line-copied p x (h 0 x (has refl)), lines-copied (p + line-length (flat-length book) (as-line x)) P (λ i y s. h (suc i) y (later s)))
+      let next = p + line-length (flat-length book) (as-line x) in
+      rw (line-copied p x (h 0 x (has refl)), lines-copied next P (λ i y s. h (suc i) y (later s)))
     where
       later : {i : ℕ} {y : Instruction} → Has P i y → Has (x ∷ P) (suc i) y
       later (has e) = has e
 
 flat-program-of-a-program : (P : Program) → Targets-within P → flat-program (map as-line P ∷ []) 0 ≡ P
 unfolding flat-program copy from-the-lowest-up said-below copy-by routine start Targets-within
-flat-program-of-a-program P h = lines-copied (map as-line P ∷ []) _ (length P) (lines-have-length-1 (flat-length (map as-line P ∷ [])) P) 0 P h
+flat-program-of-a-program P h =
+    let book = map as-line P ∷ [] in
+    lines-copied book _ (length P) (lines-have-length-1 (flat-length book) P) 0 P h
 
 -- Flattening routine 0 of a book with one routine gives the program that it says.
 pub flattening-changes-nothing : (b : List ℕ) → Taken b → routines b ≡ 1 → flat-program (book-of b) 0 ≡ program-of b
-flattening-changes-nothing b t one = rw (one-routine-book b t one) (flat-program-of-a-program (program-of b) (its-program-fits b t one .targets-within))
+flattening-changes-nothing b t one =
+    rw (one-routine-book b t one) (flat-program-of-a-program (program-of b) (its-program-fits b t one .targets-within))

@@ -1,16 +1,17 @@
--- What a taken book gives, in plain facts: its counts and length, its table in order, its lines; and the same of the book that its bytes say.
+-- What a taken book gives, in plain facts: its counts and length, its table in order, its lines; and the same of the book that it says.
 -- Read off `taken-exactly-when`, test by test; the decoded lines stand in lists by a rule. Assumes nothing.
-use Prim.Native.Nat.{ℕ, zero, suc, _+_, _-_, _<_, _≤_}
+use Prim.Native.Nat.{ℕ, zero, suc, _+_, _<_, _≤_}
 use native.Mathlib.Omega.{arith}
 use mathlib.Core.Path.{_≡_, refl, sym, _∙_, ap}
 use mathlib.Core.Logic.{inl, inr, ⊎-elim}
 use mathlib.Core.List.{List, [], _∷_}
 use lib.ListN.{length, drop, List·getD-eq-default}
+use lib.Seq.{drop-cons}
 use Rattle.scope.specs.Words.{listed}
 use Rattle.scope.specs.Book.{the-format, header-bytes, format, routine-table, line-table, line-table-due, most-routines, most-lines, last-register, routines, lines, stated-length, length-due, first-line, count, first-line-due, Line-fields, Line, INC, DEC, GO-TO, CALL, REPEAT, INC-kind, DEC-kind, GO-TO-kind, CALL-kind, REPEAT-kind, line-of, fields-in, Taken, routine, routine-of, book-of, Line-uses, by-CALL, by-REPEAT, Callees-below}
 use Rattle.scope.specs.Given.{Wrong-format, Wrong-counts, Wrong-offsets, Wrong-length, Wrong-entry, Wrong-end, Wrong-kind, Zero-stands, Wrong-register, Has-target, Wrong-target, Has-callee, Wrong-callee, Good-line, Good-in}
 use Rattle.scope.proofs.Verdicts.{one-holds, else-holds, above-tells, below-tells, not-below-tells, is-tells, is-not-tells, or-tells, either-way}
-use Rattle.scope.proofs.Listed.{length-listed, listed-at, listed-from, listed-member}
+use Rattle.scope.proofs.Listed.{length-listed, listed-at, listed-member}
 use Rattle.scope.proofs.GivenExactlyWhen.{routines-in-order, taken-exactly-when}
 
 -- ---- the bytes
@@ -61,14 +62,15 @@ good-line-is-taken f r n g =
       callee-below = λ c. else-holds (not-below-tells (f .operand) r) (λ w. g .callee-right (c, w));
     }
 
-below-is-due : (b : List ℕ) → ((r : ℕ) → r < routines b → first-line b r ≡ first-line-due b r) → (r : ℕ) → r ≤ routines b → first-line-due b r ≡ lines-below b r
+below-is-due : (b : List ℕ) → ((r : ℕ) → r < routines b → first-line b r ≡ first-line-due b r) → (r : ℕ) → r ≤ routines b
+    → first-line-due b r ≡ lines-below b r
 unfolding first-line-due lines-below
 below-is-due b starts zero h = refl
 below-is-due b starts (suc r) h = rw (starts r h, below-is-due b starts r (omega arith))
 
 -- the last routine ends at L, and every other before the last
-all-end-within : (b : List ℕ) → ((r q : ℕ) → r < q → q < routines b → first-line b r + count b r ≤ first-line b q) → (n r : ℕ) → n ≡ routines b → r < n
-    → first-line-due b n ≡ lines b → first-line b r + count b r ≤ lines b
+all-end-within : (b : List ℕ) → ((r q : ℕ) → r < q → q < routines b → first-line b r + count b r ≤ first-line b q)
+    → (n r : ℕ) → n ≡ routines b → r < n → first-line-due b n ≡ lines b → first-line b r + count b r ≤ lines b
 unfolding first-line-due
 all-end-within b order zero r e h l = absurd (omega arith)
 all-end-within b order (suc n) r e h l =
@@ -80,9 +82,15 @@ pub taken-book : (b : List ℕ) → Taken b → Taken-book b
 unfolding Wrong-format Wrong-counts Wrong-offsets Wrong-length Wrong-entry Wrong-end Good-in
 taken-book b t =
     let g = taken-exactly-when b .0 t in
-    let c = else-holds (or-tells (is-tells (routines b) 0) (or-tells (above-tells (routines b) most-routines) (above-tells (lines b) most-lines))) (g .counts-right) in
-    let o = else-holds (or-tells (is-not-tells (routine-table b) header-bytes) (or-tells (is-not-tells (line-table b) (line-table-due (routines b))) (is-not-tells (stated-length b) (length-due (routines b) (lines b))))) (g .offsets-right) in
-    let s : (r : ℕ) → r < routines b → first-line b r ≡ first-line-due b r = λ r h. else-holds (is-not-tells (first-line b r) (first-line-due b r)) (g .entries-right r h) in
+    let R = routines b in
+    let L = lines b in
+    let c = else-holds (or-tells (is-tells R 0) (or-tells (above-tells R most-routines) (above-tells L most-lines))) (g .counts-right) in
+    let offsets =
+    or-tells (is-not-tells (routine-table b) header-bytes)
+    (or-tells (is-not-tells (line-table b) (line-table-due R)) (is-not-tells (stated-length b) (length-due R L))) in
+    let o = else-holds offsets (g .offsets-right) in
+    let s : (r : ℕ) → r < routines b → first-line b r ≡ first-line-due b r =
+    λ r h. else-holds (is-not-tells (first-line b r) (first-line-due b r)) (g .entries-right r h) in
     let e = else-holds (is-not-tells (first-line-due b (routines b)) (lines b)) (g .end-right) in
     let order = routines-in-order b (g .entries-right) in
     record {
@@ -118,12 +126,12 @@ unfolding routine-of
 length-routine-of b r = length-listed _ 0 (count b r)
 
 -- Line j of routine r stands at j, and behind it the lines after it.
-pub stands-in-its-routine : (b : List ℕ) (r j : ℕ) → j < count b r → drop j (routine-of b r) ≡ line-of (fields-in b r j) ∷ drop (suc j) (routine-of b r)
-unfolding routine-of listed
+pub stands-in-its-routine : (b : List ℕ) (r j : ℕ) → j < count b r
+    → drop j (routine-of b r) ≡ line-of (fields-in b r j) ∷ drop (suc j) (routine-of b r)
+unfolding routine-of
 stands-in-its-routine b r j h =
-    let rule : ℕ → Line = λ i. line-of (fields-in b r i) in
-    listed-from rule 0 (count b r) j j (suc (count b r - suc j)) (omega arith) (omega arith)
-    ∙ ap (λ ls. line-of (fields-in b r j) ∷ ls) (sym (listed-from rule 0 (count b r) (suc j) (suc j) (count b r - suc j) (omega arith) (omega arith)))
+    drop-cons (routine-of b r) j (INC 0) (rw (length-routine-of b r) h)
+    ∙ ap (λ l. l ∷ drop (suc j) (routine-of b r)) (listed-at (λ i. line-of (fields-in b r i)) 0 (count b r) j j (INC 0) h (omega arith))
 
 -- What stands in the book at line j of routine k is line j of that routine.
 pub record Stands-in (b : List ℕ) (k j : ℕ) (l : Line) : Type 0 where

@@ -12,7 +12,7 @@ use Rattle.scope.specs.Words.{if, listed}
 use Rattle.scope.specs.Ram as ram
 use Rattle.scope.specs.Ram.{Instruction, Program, has, Target-within, Targets-within}
 use Rattle.scope.specs.Book.{the-format, most-lines, header-bytes, byte, two-byte, two-bytes, two-bytes-each, format, routines, lines, routine-table, line-table, stated-length, line-table-due, length-due, first-line, count, first-line-due, INC, DEC, GO-TO, fields-of, line-offset, fields-at, line-number, fields-in, Taken}
-use Rattle.scope.specs.Flattening.{bytes-of-fields, as-line, bytes-of-program, flat-book}
+use Rattle.scope.specs.Flattening.{bytes-of-fields, as-line, bytes-of-program, flat-book, flat-book-bytes}
 use Rattle.scope.specs.Given.{Short, Wrong-format, Wrong-counts, Wrong-offsets, Wrong-length, Wrong-entry, Wrong-end, Wrong-kind, Zero-stands, Wrong-register, Has-target, Wrong-target, Has-callee, Wrong-callee, Good-line, Good-in, Good-book}
 use Rattle.scope.specs.FlatBook.{Register-within, Registers-within, Fits-a-book, Says, Bytes}
 use Rattle.scope.specs.Running.{instruction-of, program-of}
@@ -59,8 +59,9 @@ unfolding bytes-of-program bytes-of-fields two-bytes
 length-of-bytes [] = refl
 length-of-bytes (x ∷ P) = omega (arith, length-of-bytes P)
 
-length-flat-book : (P : Program) → length (flat-book P) ≡ length-due 1 (length P)
-unfolding flat-book two-bytes-each two-bytes length-due line-table-due
+-- The result is .. 16 bytes plus 4 a line.
+pub length-flat-book : (P : Program) → length (flat-book P) ≡ flat-book-bytes (length P)
+unfolding flat-book two-bytes-each two-bytes flat-book-bytes
 length-flat-book P = omega (arith, length-of-bytes P)
 
 behind-the-front : (P : Program) (q k : ℕ) → q ≡ 16 + k → byte (flat-book P) q ≡ getD (bytes-of-program P) k 0
@@ -88,13 +89,16 @@ written-byte : (P : Program) (i : ℕ) {x : Instruction} {rest : Program} (q m :
 written-byte P i q m e h = behind-the-front P q (4 * i + m) (omega arith) ∙ four-a-line P i (4 * i + m) m e refl
 
 -- What is read at line i is what was written there.
-fields-written : (P : Program) (i : ℕ) {x : Instruction} {rest : Program} → length P ≤ most-lines → drop i P ≡ x ∷ rest → fields-of (as-line x) .operand < 65536
-    → fields-at (flat-book P) i ≡ fields-of (as-line x)
+fields-written : (P : Program) (i : ℕ) {x : Instruction} {rest : Program} → length P ≤ most-lines → drop i P ≡ x ∷ rest
+    → fields-of (as-line x) .operand < 65536 → fields-at (flat-book P) i ≡ fields-of (as-line x)
 unfolding fields-at line-offset line-table-due two-byte bytes-of-program bytes-of-fields two-bytes
 fields-written P i {x} h e small =
-    let offset : line-offset (flat-book P) i ≡ 16 + 4 * i = rw (front P h .routines-1) (omega arith) in
-    same-fields (written-byte P i _ 0 e (omega (arith, offset))) (written-byte P i _ 1 e (omega (arith, offset)))
-    (rw (written-byte P i (line-offset (flat-book P) i + 2) 2 e (omega (arith, offset)), written-byte P i (line-offset (flat-book P) i + 2 + 1) 3 e (omega (arith, offset))) (two-bytes-again _ small))
+    let q = line-offset (flat-book P) i in
+    let offset : q ≡ 16 + 4 * i = rw (front P h .routines-1) (omega arith) in
+    let low = written-byte P i (q + 2) 2 e (omega (arith, offset)) in
+    let high = written-byte P i (q + 2 + 1) 3 e (omega (arith, offset)) in
+    same-fields (written-byte P i q 0 e (omega (arith, offset))) (written-byte P i (q + 1) 1 e (omega (arith, offset)))
+    (rw (low, high) (two-bytes-again _ small))
 
 instruction-again : (x : Instruction) → instruction-of (fields-of (as-line x)) ≡ x
 unfolding instruction-of fields-of as-line if
@@ -141,7 +145,9 @@ only-routine-0 C c (suc r) h = absurd (omega arith)
 module _ (P : Program) (fits : Fits-a-book P) where
   read-at : (i : ℕ) {x : Instruction} {rest : Program} → drop i P ≡ x ∷ rest → fields-at (flat-book P) i ≡ fields-of (as-line x)
   unfolding Targets-within
-  read-at i {x} e = fields-written P i (fits .not-too-long) e (small-operand x (length P) (fits .not-too-long) (fits .targets-within i x (has e)))
+  read-at i {x} e =
+      let short = fits .not-too-long in
+      fields-written P i short e (small-operand x (length P) short (fits .targets-within i x (has e)))
 
   written-line : (j : ℕ) → j < count (flat-book P) 0 → Good-in (flat-book P) 0 j
   unfolding Good-in fields-in line-number Targets-within Registers-within
@@ -150,21 +156,27 @@ module _ (P : Program) (fits : Fits-a-book P) where
       let x = getD P j (ram.INC 0) in
       let e = drop-cons P j (ram.INC 0) (omega (arith, f .count-n)) in
       let same : line-number (flat-book P) 0 j ≡ j = omega (arith, f .first-line-0) in
-      rw (same, read-at j e, f .count-n) (written-line-is-good x (length P) (fits .registers-within j x (has e)) (fits .targets-within j x (has e)))
+      rw (same, read-at j e, f .count-n)
+      (written-line-is-good x (length P) (fits .registers-within j x (has e)) (fits .targets-within j x (has e)))
 
   written-is-good : Good-book (flat-book P)
-  unfolding Short Wrong-format Wrong-counts Wrong-offsets Wrong-length Wrong-entry Wrong-end first-line-due length-due line-table-due
+  unfolding Short Wrong-format Wrong-counts Wrong-offsets Wrong-length Wrong-entry Wrong-end first-line-due length-due line-table-due flat-book-bytes
   written-is-good =
       let f = front P (fits .not-too-long) in
+      let one = f .routines-1 in
+      let long = length-flat-book P in
       record {
-        not-short = λ h. omega (arith, length-flat-book P);
+        not-short = λ h. omega (arith, long);
         format-right = λ w. w (f .format-1);
-        counts-right = ⊎-elim (omega (arith, f .routines-1)) (⊎-elim (omega (arith, f .routines-1)) (omega (arith, f .lines-n, fits .not-too-long)));
-        offsets-right = ⊎-elim (λ w. w (f .routine-table-12)) (⊎-elim (λ w. w (rw (f .routines-1) (f .line-table-16))) (λ w. w (rw (f .routines-1, f .lines-n) (f .stated-length-due))));
-        length-right = λ w. w (length-flat-book P ∙ sym (f .stated-length-due));
-        entries-right = λ r h. only-routine-0 (λ r. ¬ Wrong-entry (flat-book P) r) (λ w. w (f .first-line-0)) r (rw (f .routines-1) at h);
-        end-right = λ w. w (rw (f .routines-1) (omega (arith, f .first-line-0, f .count-n, f .lines-n)));
-        lines-good = λ r j h. only-routine-0 (λ r. j < count (flat-book P) r → Good-in (flat-book P) r j) (written-line j) r (rw (f .routines-1) at h);
+        counts-right = ⊎-elim (omega (arith, one)) (⊎-elim (omega (arith, one)) (omega (arith, f .lines-n, fits .not-too-long)));
+        offsets-right =
+            ⊎-elim (λ w. w (f .routine-table-12))
+            (⊎-elim (λ w. w (rw one (f .line-table-16))) (λ w. w (rw (one, f .lines-n) (f .stated-length-due))));
+        length-right = λ w. w (omega (arith, long, f .stated-length-due));
+        entries-right = λ r h. only-routine-0 (λ r. ¬ Wrong-entry (flat-book P) r) (λ w. w (f .first-line-0)) r (rw one at h);
+        end-right = λ w. w (rw one (omega (arith, f .first-line-0, f .count-n, f .lines-n)));
+        lines-good = λ r j h.
+            only-routine-0 (λ r. j < count (flat-book P) r → Good-in (flat-book P) r j) (written-line j) r (rw one at h);
       }
 
   -- The bytes that are written of a program say that program.
@@ -173,7 +185,8 @@ module _ (P : Program) (fits : Fits-a-book P) where
   written-says-it =
       let f = front P (fits .not-too-long) in
       let t = taken-exactly-when (flat-book P) .1 written-is-good in
-      let again : program-of (flat-book P) ≡ P = listed-is _ P 0 (lines (flat-book P)) (sym (f .lines-n)) (λ j k x rest e h.
+      let again : program-of (flat-book P) ≡ P =
+      listed-is _ P 0 (lines (flat-book P)) (sym (f .lines-n)) (λ j k x rest e h.
       let same : k ≡ j = omega arith in
       rw (same, read-at j e) (instruction-again x)) in
       record {
@@ -196,6 +209,10 @@ high-byte-again low high h g =
     let digits : low + 256 * high ≡ high * 256 + low = omega arith in
     rw (digits, digits-div high h) (omega arith)
 
+-- the numbers of the header and of the one entry of a book with one routine and n lines
+numbers-in-front : ℕ → List ℕ
+numbers-in-front n = the-format ∷ 1 ∷ n ∷ header-bytes ∷ line-table-due 1 ∷ length-due 1 n ∷ 0 ∷ n ∷ []
+
 module _ (b : List ℕ) (bytes : Bytes b) where
   -- Two bytes stand as they are written of the number that they say.
   two-bytes-stand : (q r : ℕ) → r ≡ q + 2 → r ≤ length b → drop q b ≡ two-bytes (two-byte b q) ++ drop r b
@@ -203,34 +220,42 @@ module _ (b : List ℕ) (bytes : Bytes b) where
   two-bytes-stand q r e h =
       let next : q + 1 ≡ suc q = omega arith in
       let after : r ≡ suc (suc q) = omega arith in
-      rw (low-byte-again (byte b q) (byte b (q + 1)) (bytes q (omega arith)), high-byte-again (byte b q) (byte b (q + 1)) (bytes q (omega arith)) (bytes (q + 1) (omega arith)), after, next)
-      (drop-cons b q 0 (omega arith) ∙ ap (λ xs. byte b q ∷ xs) (drop-cons b (suc q) 0 (omega arith)))
+      let small = bytes q (omega arith) in
+      let low = low-byte-again (byte b q) (byte b (q + 1)) small in
+      let high = high-byte-again (byte b q) (byte b (q + 1)) small (bytes (q + 1) (omega arith)) in
+      rw (low, high, after, next) (drop-cons b q 0 (omega arith) ∙ ap (λ xs. byte b q ∷ xs) (drop-cons b (suc q) 0 (omega arith)))
 
-  numbers-stand : (n i q r : ℕ) → q ≡ 2 * i → r ≡ q + 2 * n → r ≤ length b → drop q b ≡ two-bytes-each (listed (λ k. two-byte b (2 * k)) i n) ++ drop r b
+  numbers-stand : (n i q r : ℕ) → q ≡ 2 * i → r ≡ q + 2 * n → r ≤ length b
+      → drop q b ≡ two-bytes-each (listed (λ k. two-byte b (2 * k)) i n) ++ drop r b
   unfolding two-bytes-each two-bytes listed
   numbers-stand zero i q r e f h =
       let same : q ≡ r = omega arith in
       ap (λ x. drop x b) same
   numbers-stand (suc n) i q r e f h =
-      two-bytes-stand q (q + 2) refl (omega arith) ∙ ap (λ x. two-bytes (two-byte b x) ++ drop (q + 2) b) e ∙ ap (λ xs. two-bytes (two-byte b (2 * i)) ++ xs) (numbers-stand n (suc i) (q + 2) r (omega arith) (omega arith) h)
+      two-bytes-stand q (q + 2) refl (omega arith)
+      ∙ ap (λ x. two-bytes (two-byte b x) ++ drop (q + 2) b) e
+      ∙ ap (λ xs. two-bytes (two-byte b (2 * i)) ++ xs) (numbers-stand n (suc i) (q + 2) r (omega arith) (omega arith) h)
 
   module _ (t : Taken b) (one : routines b ≡ 1) where
     its-length : length b ≡ 16 + 4 * lines b
     unfolding length-due line-table-due
     its-length = omega (arith, (rw one at (taken-book b t .length-as-due)))
 
-    lines-stand : (n i q : ℕ) → i + n ≡ lines b → q ≡ 16 + 4 * i → drop q b ≡ bytes-of-program (listed (λ k. instruction-of (fields-at b k)) i n)
+    lines-stand : (n i q : ℕ) → i + n ≡ lines b → q ≡ 16 + 4 * i
+        → drop q b ≡ bytes-of-program (listed (λ k. instruction-of (fields-at b k)) i n)
     unfolding listed byte bytes-of-program bytes-of-fields two-bytes fields-at line-offset line-table-due
     lines-stand zero i q e h = drop-of-length-le b {i = q} (omega (arith, its-length))
     lines-stand (suc n) i q e h =
         let offset : line-offset b i ≡ q = rw one (omega arith) in
         let next : q + 1 ≡ suc q = omega arith in
         let operand : q + 2 ≡ suc (suc q) = omega arith in
+        let rest = lines-stand n (suc i) (q + 4) (omega arith) (omega arith) in
+        let two = two-bytes-stand (suc (suc q)) (q + 4) (omega arith) (omega (arith, its-length)) in
         rw (fields-again (fields-at b i) (lines b) (line-of-the-routine b t one i (omega arith)), offset, next, operand)
-        (drop-cons b q 0 (omega (arith, its-length)) ∙ ap (λ xs. byte b q ∷ xs) (drop-cons b (suc q) 0 (omega (arith, its-length)) ∙ ap (λ xs. byte b (suc q) ∷ xs) (two-bytes-stand (suc (suc q)) (q + 4) (omega arith) (omega (arith, its-length)) ∙ ap (λ xs. two-bytes (two-byte b (suc (suc q))) ++ xs) (lines-stand n (suc i) (q + 4) (omega arith) (omega arith)))))
-
-    numbers-in-front : ℕ → List ℕ
-    numbers-in-front n = the-format ∷ 1 ∷ n ∷ header-bytes ∷ line-table-due 1 ∷ length-due 1 n ∷ 0 ∷ n ∷ []
+        (drop-cons b q 0 (omega (arith, its-length))
+        ∙ ap (λ xs. byte b q ∷ xs) (drop-cons b (suc q) 0 (omega (arith, its-length)))
+        ∙ ap (λ xs. byte b q ∷ byte b (suc q) ∷ xs) two
+        ∙ ap (λ xs. byte b q ∷ byte b (suc q) ∷ two-bytes (two-byte b (suc (suc q))) ++ xs) rest)
 
     they-stand-in-front : listed (λ k. two-byte b (2 * k)) 0 8 ≡ numbers-in-front (lines b)
     unfolding listed numbers-in-front format routines lines routine-table line-table stated-length first-line count
@@ -249,6 +274,7 @@ module _ (b : List ℕ) (bytes : Bytes b) where
     pub writing-after-reading : flat-book (program-of b) ≡ b
     unfolding flat-book two-bytes-each two-bytes program-of numbers-in-front
     writing-after-reading =
-        let P = program-of b in
         rw (length-program-of b t one)
-        (sym (numbers-stand 8 0 0 16 refl refl (omega (arith, its-length)) ∙ ap (λ ns. two-bytes-each ns ++ drop 16 b) they-stand-in-front ∙ ap (λ xs. two-bytes-each (numbers-in-front (lines b)) ++ xs) (lines-stand (lines b) 0 16 (omega arith) refl)))
+        (sym (numbers-stand 8 0 0 16 refl refl (omega (arith, its-length))
+        ∙ ap (λ ns. two-bytes-each ns ++ drop 16 b) they-stand-in-front
+        ∙ ap (λ xs. two-bytes-each (numbers-in-front (lines b)) ++ xs) (lines-stand (lines b) 0 16 (omega arith) refl)))

@@ -25,7 +25,8 @@ pub data Given-to-flatten (b : List ℕ) (k : ℕ) : Refusal → Type 0 where
   -- | 11 | DEPTH | more than 32 routines open inside one another |
   to-flatten-DEPTH : Taken b → k < routines b → most-open < depth (book-of b) k → Given-to-flatten b k (refusal DEPTH 0)
   -- | 13 | TOO LONG | flat length above 4,096 |
-  to-flatten-TOO-LONG : Taken b → k < routines b → depth (book-of b) k ≤ most-open → most-flat-lines < flat-length (book-of b) k → Given-to-flatten b k (refusal TOO-LONG 0)
+  to-flatten-TOO-LONG : Taken b → k < routines b → depth (book-of b) k ≤ most-open → most-flat-lines < flat-length (book-of b) k
+      → Given-to-flatten b k (refusal TOO-LONG 0)
 
 -- Routine k of the book flattens: none of these is given.
 pub record Flattens (b : List ℕ) (k : ℕ) : Type 0 where
