@@ -9,3 +9,5 @@ pub mod FlatLines
 pub mod Places
 pub mod Simulation
 pub mod Moves
+pub mod Steady
+pub mod QuoteEnough

@@ -32,3 +32,4 @@ pub mod Samples
 -- words that the laws of proofs/ need and the paper's definitions do not
 pub mod Addresses
 pub mod Moves
+pub mod Enough
