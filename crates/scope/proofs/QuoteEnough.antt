@@ -2,7 +2,7 @@
 -- What is left to do at a place (lines ahead at their quotes, a REPEAT at its register's present value) falls with every step.
 use Prim.Native.Nat.{ℕ, zero, suc, _+_, _*_, _≤_, _<_}
 use native.Mathlib.Omega.{arith}
-use native.Mathlib.Nat.{mul-le-mul-right, suc-mul}
+use native.Mathlib.Nat.{le-of-eq, mul-le-mul-right, suc-mul}
 use mathlib.Core.Bool.{Bool, true, false}
 use mathlib.Core.Path.{_≡_, refl, sym, subst⁻¹}
 use mathlib.Core.List.{List, [], _∷_}
@@ -10,18 +10,20 @@ use lib.ListN.{drop}
 use lib.Seq.{drop-nil, getD-set-other}
 use borrow.Author.Tests.{ltb-true, eqb-false}
 use Rattle.scope.specs.Words.{_is_, if}
-use Rattle.scope.specs.Book.{Line, INC, DEC, GO-TO, CALL, REPEAT, Book, routine, used, by-CALL, Callees-below}
+use Rattle.scope.specs.Book.{Line, INC, DEC, GO-TO, CALL, REPEAT, Book, routine, used, Callees-below}
 use Rattle.scope.specs.Steps.{top, Registers, value, with-value, Next, at-the-end, before-full, goes-to, adds-one, takes-one-from, takes-one-off, run-on, run-from}
-use Rattle.scope.specs.Nested.{Opened-by, a-CALL, a-REPEAT, Step, inc, dec, go-to, look, go-back, Place, ended, due, come-to, enter-by, enter, leave, settle, nested-step, nested-next, nested-run}
+use Rattle.scope.specs.Nested.{Opened-by, a-CALL, a-REPEAT, Step, inc, dec, go-to, look, go-back, Place, ended, due, come-to, settle, nested-step, nested-next, nested-run}
 use Rattle.scope.specs.Flattening.{sum-of, start, flat-program}
 use Rattle.scope.specs.Addresses.{begins}
 use Rattle.scope.specs.Running.{flat-run}
 use Rattle.scope.specs.Quote.{line-steady, steady, line-quote, quote-by, quote}
 use Rattle.scope.specs.Enough.{raises, raised, steady-where-not-raised, Up-to-65535, By-itself, finished, full, Ends-within}
-use Rattle.scope.proofs.Lowest.{enter-by-the-rule, quote-by-the-rule}
+use Rattle.scope.specs.Moves.{Moves-to, INC-is-a-step, DEC-is-a-step, GO-TO-is-a-step, REPEAT-looks, CALL-enters, CALL-goes-on, REPEAT-goes-back, asked-is-at-its-end}
+use Rattle.scope.proofs.Lowest.{quote-by-the-rule}
+use Rattle.scope.proofs.Moves.{settle-is-moved-to}
 use Rattle.scope.proofs.FlatLines.{drop-tail}
 use Rattle.scope.proofs.Places.{does-inc, does-dec, does-go-to, does-look, does-go-back, Is-open, the-asked, called, repeated, Reached, the-end, a-step, Reached-at, settle-keeps-address}
-use Rattle.scope.proofs.Simulation.{Same-end, simulation}
+use Rattle.scope.proofs.Simulation.{simulation}
 use Rattle.scope.proofs.Steady.{steady-is-steady-where-not-raised, line-is-steady, called-is-steady, repeated-is-steady, repeat-is-not-raised, not-raised-here, not-raised-below}
 
 -- ---- what is left to do
@@ -72,47 +74,32 @@ module _ (book : Book) (ok : Callees-below book) (rs : Registers) (low : Up-to-6
   present-is-quoted (CALL c) = omega arith
   present-is-quoted (REPEAT r c) = omega (arith, mul-le-mul-right (quote book c + 2) (low r))
 
-  due-leaves : {l : Line} {ls : List Line} (d : Step) (k i : ℕ) (around : List Opened-by) → drop i (routine book k) ≡ l ∷ ls → way-back book d ≡ 0 → left book rs (due d k i around) ≤ quoted book (l ∷ ls) + left-around book rs around
+  due-leaves :
+      {l : Line} {rest : List Line} (d : Step) (k i : ℕ) (around : List Opened-by) → drop i (routine book k) ≡ l ∷ rest → way-back book d ≡ 0
+      → left book rs (due d k i around) ≤ quoted book (drop i (routine book k)) + left-around book rs around
   unfolding left from-here sum-of
-  due-leaves {l} {ls} d k i around e z = rw e (omega (arith, z, present-is-quoted l))
+  due-leaves {l} d k i around e no-way-back = rw e (omega (arith, no-way-back, present-is-quoted l))
 
-  Enters-with : ℕ → Type 0
-  Enters-with c = (around : List Opened-by) (after : Place) → left book rs after ≤ left-around book rs around → left book rs (enter book c around after) ≤ quote book c + left-around book rs around
+  moves-leave :
+      {k i : ℕ} {around : List Opened-by} {place : Place} → Moves-to book k i around place
+      → left book rs place ≤ quoted book (drop i (routine book k)) + left-around book rs around
+  unfolding left left-around way-back sum-of line-quote quote-by
+  moves-leave {k = k} {i = i} {around = around} (INC-is-a-step {r = r} e) = due-leaves (inc r) k i around e refl
+  moves-leave {k = k} {i = i} {around = around} (DEC-is-a-step {r = r} {t = t} e) = due-leaves (dec r t) k i around e refl
+  moves-leave {k = k} {i = i} {around = around} (GO-TO-is-a-step {t = t} e) = due-leaves (go-to t) k i around e refl
+  moves-leave {k = k} {i = i} {around = around} (REPEAT-looks {r = r} {c = c} e) = due-leaves (look r c) k i around e refl
+  moves-leave {k = k} {i = i} (CALL-enters {c = c} {rest = rest} e m) =
+      let behind : quoted book (drop (suc i) (routine book k)) ≡ quoted book rest = rw (drop-tail (routine book k) i e) refl in
+      let its-quote : quoted book (routine book c) ≡ quote book c = sym (quote-by-the-rule book ok c) in
+      rw e (omega (arith, moves-leave m, behind, its-quote))
+  moves-leave (CALL-goes-on d m) = rw d (omega (arith, moves-leave m))
+  moves-leave (REPEAT-goes-back d) = omega arith
+  moves-leave (asked-is-at-its-end d) = omega arith
 
-  come-to-leaves :
-      (k : ℕ) → ((c : ℕ) → c < k → Enters-with c) → (i : ℕ) (ls : List Line) (around : List Opened-by) (after : Place) → drop i (routine book k) ≡ ls
-      → left book rs after ≤ left-around book rs around → left book rs (come-to (enter book) k i ls around after) ≤ quoted book ls + left-around book rs around
-  unfolding come-to Enters-with sum-of line-quote left-around Callees-below way-back
-  come-to-leaves k enters i [] around after e g = omega (arith, g)
-  come-to-leaves k enters i (INC r ∷ ls) around after e g = due-leaves (inc r) k i around e refl
-  come-to-leaves k enters i (DEC r t ∷ ls) around after e g = due-leaves (dec r t) k i around e refl
-  come-to-leaves k enters i (GO-TO t ∷ ls) around after e g = due-leaves (go-to t) k i around e refl
-  come-to-leaves k enters i (CALL c ∷ ls) around after e g =
-      let below = ok k c (record { at-line = i; line = CALL c; rest = ls; stands = e; line-uses = by-CALL }) in
-      let behind : left-around book rs (a-CALL k i ∷ around) ≡ quoted book ls + left-around book rs around = rw (drop-tail (routine book k) i e) refl in
-      let on = come-to-leaves k enters (suc i) ls around after (drop-tail (routine book k) i e) g in
-      omega (arith, behind, enters c below (a-CALL k i ∷ around) (come-to (enter book) k (suc i) ls around after) (omega (arith, behind, on)))
-  come-to-leaves k enters i (REPEAT r c ∷ ls) around after e g = due-leaves (look r c) k i around e refl
-
-  enters-with-below : (n c : ℕ) → c < n → Enters-with c
-  unfolding Enters-with enter-by quote-by
-  enters-with-below zero c lt around after g = absurd (omega arith)
-  enters-with-below (suc n) c lt around after g =
-      rw (enter-by-the-rule book ok c, quote-by-the-rule book ok c)
-      (come-to-leaves c (λ d l. enters-with-below n d (omega arith)) 0 (routine book c) around after refl g)
-
-  come-to-leaves-quoted : (k i : ℕ) (around : List Opened-by) (after : Place) → left book rs after ≤ left-around book rs around → left book rs (come-to (enter book) k i (drop i (routine book k)) around after) ≤ quoted book (drop i (routine book k)) + left-around book rs around
-  come-to-leaves-quoted k i around after g = come-to-leaves k (λ c lt. enters-with-below k c lt) i (drop i (routine book k)) around after refl g
-
-  leave-leaves : (c : ℕ) (around : List Opened-by) → left book rs (leave book c around) ≤ left-around book rs around
-  unfolding leave left left-around way-back
-  leave-leaves c [] = omega arith
-  leave-leaves c (a-CALL k i ∷ around) = come-to-leaves-quoted k (suc i) around (leave book k around) (leave-leaves k around)
-  leave-leaves c (a-REPEAT k i ∷ around) = omega arith
-
-  settle-leaves : (k i : ℕ) (around : List Opened-by) → left book rs (settle book k i around) ≤ quoted book (drop i (routine book k)) + left-around book rs around
-  unfolding settle
-  settle-leaves k i around = come-to-leaves-quoted k i around (leave book k around) (leave-leaves k around)
+  settle-leaves :
+      (k i : ℕ) (around : List Opened-by)
+      → left book rs (settle book k i around) ≤ quoted book (drop i (routine book k)) + left-around book rs around
+  settle-leaves k i around = moves-leave (settle-is-moved-to book ok k i around)
 
 -- ---- registers after a step
 
@@ -154,11 +141,15 @@ module _ (book : Book) (ok : Callees-below book) (asked : ℕ) (steady-asked : s
   abbrev None-risen : ℕ → Registers → Registers → Type 0
   None-risen k rs ss = (j : ℕ) → raised book j k ≡ false → value ss j ≤ value rs j
 
-  repeat-does-not-rise : {r c : ℕ} {rest : List Line} (rs ss : Registers) (k i : ℕ) → drop i (routine book k) ≡ REPEAT r c ∷ rest → value ss r ≤ value rs r → from-here book ss (drop i (routine book k)) ≤ from-here book rs (drop i (routine book k))
+  repeat-does-not-rise :
+      {r c : ℕ} {rest : List Line} (rs ss : Registers) (k i : ℕ) → drop i (routine book k) ≡ REPEAT r c ∷ rest → value ss r ≤ value rs r
+      → from-here book ss (drop i (routine book k)) ≤ from-here book rs (drop i (routine book k))
   unfolding from-here present
   repeat-does-not-rise {r} {c} rs ss k i e h = rw e (omega (arith, mul-le-mul-right (quote book c + 2) h))
 
-  around-does-not-rise : {k : ℕ} {around : List Opened-by} (rs ss : Registers) → Is-open book asked k around → None-risen k rs ss → left-around book ss around ≤ left-around book rs around
+  around-does-not-rise :
+      {k : ℕ} {around : List Opened-by} (rs ss : Registers) → Is-open book asked k around → None-risen k rs ss
+      → left-around book ss around ≤ left-around book rs around
   unfolding left-around used
   around-does-not-rise rs ss the-asked h = omega arith
   around-does-not-rise {around = a-CALL k i ∷ around} rs ss (called e o) h =
@@ -180,38 +171,54 @@ module _ (book : Book) (ok : Callees-below book) (asked : ℕ) (steady-asked : s
   data Falls (before : ℕ) : Next Place → Type 0 where
     is-at-the-end : Falls before at-the-end
     is-full : {r : ℕ} → 0 < before → Falls before (before-full r)
-    falls : {place : Place} {rs : Registers} → Reached book asked place → Up-to-65535 rs → left book rs place < before → Falls before (goes-to place rs)
+    falls :
+        {place : Place} {rs : Registers} → Reached book asked place → Up-to-65535 rs → left book rs place < before
+        → Falls before (goes-to place rs)
 
   settled : (k i : ℕ) (around : List Opened-by) → Is-open book asked k around → Reached book asked (settle book k i around)
-  settled k i around o = let g : Reached-at book asked (settle book k i around) (begins book around + start book k i) = settle-keeps-address book ok asked k i around o refl in g .reached
+  settled k i around o =
+      let there : Reached-at book asked (settle book k i around) (begins book around + start book k i) =
+      settle-keeps-address book ok asked k i around o refl in
+      there .reached
 
   -- going on in the same routine, to a later line
-  further-on : {l : Line} {rest : List Line} (rs ss : Registers) (k i t : ℕ) (around : List Opened-by) → drop i (routine book k) ≡ l ∷ rest → Is-open book asked k around → i < t → 0 < present book rs l → None-risen k rs ss → Up-to-65535 ss
+  further-on :
+      {l : Line} {rest : List Line} (rs ss : Registers) (k i t : ℕ) (around : List Opened-by) → drop i (routine book k) ≡ l ∷ rest
+      → Is-open book asked k around → i < t → 0 < present book rs l → None-risen k rs ss → Up-to-65535 ss
       → left book ss (settle book k t around) < from-here book rs (drop i (routine book k)) + left-around book rs around
   unfolding from-here
   further-on {l} {rest} rs ss k i t around e o lt some h low =
       let on = settle-leaves book ok ss low k t around in
-      let later : quoted book (drop t (routine book k)) ≤ quoted book (drop (suc i) (routine book k)) = quoted-from-further-on (routine book k) (suc i) t (omega arith) in
+      let later = quoted-from-further-on (routine book k) (suc i) t (omega arith) in
       let next : quoted book (drop (suc i) (routine book k)) ≡ quoted book rest = rw (drop-tail (routine book k) i e) refl in
       rw e (omega (arith, on, later, next, some, around-does-not-rise rs ss o h))
 
-  jump-falls : {l : Line} {rest : List Line} (d : Step) (rs : Registers) (k i t : ℕ) (around : List Opened-by) → way-back book d ≡ 0 → drop i (routine book k) ≡ l ∷ rest → Is-open book asked k around → i < t → 0 < present book rs l → Up-to-65535 rs → Falls (left book rs (due d k i around)) (goes-to (settle book k t around) rs)
+  jump-falls :
+      {l : Line} {rest : List Line} (d : Step) (rs : Registers) (k i t : ℕ) (around : List Opened-by) → way-back book d ≡ 0
+      → drop i (routine book k) ≡ l ∷ rest → Is-open book asked k around → i < t → 0 < present book rs l → Up-to-65535 rs
+      → Falls (left book rs (due d k i around)) (goes-to (settle book k t around) rs)
   unfolding left
   jump-falls d rs k i t around no-way-back e o lt some low =
       falls (settled k t around o) low (omega (arith, no-way-back, further-on rs rs k i t around e o lt some (λ j n. omega arith) low))
 
-  add-one-falls : {rest : List Line} (rs : Registers) (k i r : ℕ) (around : List Opened-by) → drop i (routine book k) ≡ INC r ∷ rest → Is-open book asked k around → Up-to-65535 rs → Falls (left book rs (due (inc r) k i around)) (adds-one r rs (settle book k (suc i) around))
+  add-one-falls :
+      {rest : List Line} (rs : Registers) (k i r : ℕ) (around : List Opened-by) → drop i (routine book k) ≡ INC r ∷ rest
+      → Is-open book asked k around → Up-to-65535 rs
+      → Falls (left book rs (due (inc r) k i around)) (adds-one r rs (settle book k (suc i) around))
   unfolding adds-one if left way-back Up-to-65535 raises present from-here
   add-one-falls {rest} rs k i r around e o low = by-test (value rs r is top) refl
     where
       ss : Registers
       ss = with-value rs r (suc (value rs r))
 
-      by-test : (t : Bool) → (value rs r is top) ≡ t → Falls (left book rs (due (inc r) k i around)) (if t (before-full r) (goes-to (settle book k (suc i) around) ss))
+      by-test :
+          (t : Bool) → (value rs r is top) ≡ t
+          → Falls (left book rs (due (inc r) k i around)) (if t (before-full r) (goes-to (settle book k (suc i) around) ss))
       by-test true t = is-full (rw e (omega arith))
       by-test false t =
-          let low-still : Up-to-65535 ss = λ j. none-is-above rs r (suc (value rs r)) j top (omega (arith, low r, eqb-false (value rs r) top t)) (low j) in
-          let none-risen : None-risen k rs ss = λ j n. rw (others-stay rs r (suc (value rs r)) j (not-raised-here book ok j k i n e)) (omega arith) in
+          let below : suc (value rs r) ≤ top = omega (arith, low r, eqb-false (value rs r) top t) in
+          let low-still : Up-to-65535 ss = λ j. none-is-above rs r (suc (value rs r)) j top below (low j) in
+          let none-risen : None-risen k rs ss = λ j n. le-of-eq (others-stay rs r (suc (value rs r)) j (not-raised-here book ok j k i n e)) in
           falls (settled k (suc i) around o) low-still
           (omega (arith, further-on rs ss k i (suc i) around e o (omega arith) (omega arith) none-risen low-still))
 
@@ -219,24 +226,35 @@ module _ (book : Book) (ok : Callees-below book) (asked : ℕ) (steady-asked : s
   unfolding Up-to-65535
   stays-low rs r v e low j = none-is-above rs r v j top (omega (arith, low r)) (low j)
 
-  dec-falls : {rest : List Line} (rs : Registers) (k i r t : ℕ) (around : List Opened-by) → drop i (routine book k) ≡ DEC r t ∷ rest → Is-open book asked k around → Up-to-65535 rs → Falls (left book rs (due (dec r t) k i around)) (takes-one-off r rs (settle book k (suc i) around) (settle book k t around))
+  dec-falls :
+      {rest : List Line} (rs : Registers) (k i r t : ℕ) (around : List Opened-by) → drop i (routine book k) ≡ DEC r t ∷ rest
+      → Is-open book asked k around → Up-to-65535 rs
+      → Falls (left book rs (due (dec r t) k i around)) (takes-one-off r rs (settle book k (suc i) around) (settle book k t around))
   unfolding takes-one-off takes-one-from left way-back present line-steady
   dec-falls {rest} rs k i r t around e o low = by-value (value rs r) refl
     where
-      by-value : (v : ℕ) → value rs r ≡ v → Falls (left book rs (due (dec r t) k i around)) (takes-one-from v r rs (settle book k (suc i) around) (settle book k t around))
+      by-value :
+          (v : ℕ) → value rs r ≡ v
+          → Falls (left book rs (due (dec r t) k i around)) (takes-one-from v r rs (settle book k (suc i) around) (settle book k t around))
       by-value zero z =
           let above = ltb-true i t (line-is-steady book ok k i (open-is-steady o) e) in
           jump-falls (dec r t) rs k i t around refl e o above (omega arith) low
       by-value (suc v) z =
           let low-still = stays-low rs r v z low in
+          let none-risen : None-risen k rs (with-value rs r v) = λ j n. none-rises rs r v j (omega arith) in
           falls (settled k (suc i) around o) low-still
-          (omega (arith, further-on rs (with-value rs r v) k i (suc i) around e o (omega arith) (omega arith) (λ j n. none-rises rs r v j (omega arith)) low-still))
+          (omega (arith, further-on rs (with-value rs r v) k i (suc i) around e o (omega arith) (omega arith) none-risen low-still))
 
-  look-falls : {rest : List Line} (rs : Registers) (k i r c : ℕ) (around : List Opened-by) → drop i (routine book k) ≡ REPEAT r c ∷ rest → Is-open book asked k around → Up-to-65535 rs → Falls (left book rs (due (look r c) k i around)) (takes-one-off r rs (settle book c 0 (a-REPEAT k i ∷ around)) (settle book k (suc i) around))
+  look-falls :
+      {rest : List Line} (rs : Registers) (k i r c : ℕ) (around : List Opened-by) → drop i (routine book k) ≡ REPEAT r c ∷ rest
+      → Is-open book asked k around → Up-to-65535 rs
+      → Falls (left book rs (due (look r c) k i around)) (takes-one-off r rs (settle book c 0 (a-REPEAT k i ∷ around)) (settle book k (suc i) around))
   unfolding takes-one-off takes-one-from left way-back present left-around from-here quote-by
   look-falls {rest} rs k i r c around e o low = by-value (value rs r) refl
     where
-      by-value : (v : ℕ) → value rs r ≡ v → Falls (left book rs (due (look r c) k i around)) (takes-one-from v r rs (settle book c 0 (a-REPEAT k i ∷ around)) (settle book k (suc i) around))
+      by-value :
+          (v : ℕ) → value rs r ≡ v
+          → Falls (left book rs (due (look r c) k i around)) (takes-one-from v r rs (settle book c 0 (a-REPEAT k i ∷ around)) (settle book k (suc i) around))
       by-value zero z =
           jump-falls (look r c) rs k i (suc i) around refl e o (omega arith) (omega arith) low
       by-value (suc v) z =
@@ -245,17 +263,22 @@ module _ (book : Book) (ok : Callees-below book) (asked : ℕ) (steady-asked : s
           let in-c = settle-leaves book ok ss low-still c 0 (a-REPEAT k i ∷ around) in
           let its-quote : quoted book (routine book c) ≡ quote book c = sym (quote-by-the-rule book ok c) in
           let again : from-here book ss (drop i (routine book k)) ≡ v * (quote book c + 2) + 1 + quoted book rest = rw (e, taken-off rs r v z) refl in
+          let around-it = around-does-not-rise rs ss o (λ j n. none-rises rs r v j (omega arith)) in
           let before : from-here book rs (drop i (routine book k)) ≡ suc v * (quote book c + 2) + 1 + quoted book rest = rw (e, z) refl in
           falls (settled c 0 (a-REPEAT k i ∷ around) (repeated e o)) low-still
-          (omega (arith, in-c, its-quote, again, before, suc-mul v (quote book c + 2), around-does-not-rise rs ss o (λ j n. none-rises rs r v j (omega arith))))
+          (omega (arith, in-c, its-quote, again, before, suc-mul v (quote book c + 2), around-it))
 
-  look-again-falls : {rest : List Line} (rs : Registers) (k i r c : ℕ) (around : List Opened-by) → drop i (routine book k) ≡ REPEAT r c ∷ rest → Is-open book asked k around → Up-to-65535 rs → Falls (left book rs (due (go-back c) k i around)) (goes-to (settle book k i around) rs)
+  look-again-falls :
+      {rest : List Line} (rs : Registers) (k i r c : ℕ) (around : List Opened-by) → drop i (routine book k) ≡ REPEAT r c ∷ rest
+      → Is-open book asked k around → Up-to-65535 rs
+      → Falls (left book rs (due (go-back c) k i around)) (goes-to (settle book k i around) rs)
   unfolding left way-back settle come-to
   look-again-falls rs k i r c around e o low =
       let looks : settle book k i around ≡ due (look r c) k i around = rw e refl in
       falls (settled k i around o) low (rw looks (omega arith))
 
-  step-falls : {place : Place} (rs : Registers) → Reached book asked place → Up-to-65535 rs → Falls (left book rs place) (nested-next book place rs)
+  step-falls :
+      {place : Place} (rs : Registers) → Reached book asked place → Up-to-65535 rs → Falls (left book rs place) (nested-next book place rs)
   unfolding nested-next nested-step present way-back line-steady
   step-falls rs the-end low = is-at-the-end
   step-falls {place = due d k i around} rs (a-step e (does-inc {r = r}) o) low = add-one-falls rs k i r around e o low
@@ -267,7 +290,9 @@ module _ (book : Book) (ok : Callees-below book) (asked : ℕ) (steady-asked : s
 
   -- ---- so the run ends by itself
 
-  run-stops : (budget done n : ℕ) (place : Place) (rs : Registers) {next : Next Place} → Falls n next → n ≤ budget → Ends-within (done + n) (run-on (nested-next book) budget done place rs next)
+  run-stops :
+      (budget done n : ℕ) (place : Place) (rs : Registers) {next : Next Place} → Falls n next → n ≤ budget
+      → Ends-within (done + n) (run-on (nested-next book) budget done place rs next)
   unfolding run-on
   run-stops zero done n place rs is-at-the-end h = record { by-itself = finished; within = omega arith }
   run-stops zero done n place rs (is-full some) h = absurd (omega arith)
@@ -278,13 +303,16 @@ module _ (book : Book) (ok : Callees-below book) (asked : ℕ) (steady-asked : s
       let on = run-stops budget (suc done) (left book rs′ place′) place′ rs′ (step-falls rs′ g low) (omega (arith, lt, h)) in
       record { by-itself = on .by-itself; within = omega (arith, on .within, lt) }
 
-  nested-run-stops : (budget : ℕ) (rs : Registers) → Up-to-65535 rs → quote book asked ≤ budget → Ends-within (quote book asked) (nested-run book asked budget rs)
+  nested-run-stops :
+      (budget : ℕ) (rs : Registers) → Up-to-65535 rs → quote book asked ≤ budget
+      → Ends-within (quote book asked) (nested-run book asked budget rs)
   unfolding nested-run run-from quote-by left-around
   nested-run-stops budget rs low h =
       let first = settle book asked 0 [] in
       let its-quote : quoted book (routine book asked) ≡ quote book asked = sym (quote-by-the-rule book ok asked) in
       let at-first = settle-leaves book ok rs low asked 0 [] in
-      let on = run-stops budget 0 (left book rs first) first rs (step-falls rs (settled asked 0 [] the-asked) low) (omega (arith, at-first, its-quote, h)) in
+      let down = step-falls rs (settled asked 0 [] the-asked) low in
+      let on = run-stops budget 0 (left book rs first) first rs down (omega (arith, at-first, its-quote, h)) in
       record { by-itself = on .by-itself; within = omega (arith, on .within, at-first, its-quote) }
 
 -- ---- the law

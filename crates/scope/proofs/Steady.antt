@@ -195,9 +195,11 @@ module _ (book : Book) (ok : Callees-below book) where
   raised-nowhere j k i n e =
       no-line-is-such (raises j) (raised book j) i (routine book k) (sym (in-or-under-by-the-rule book ok (raises j) k) ∙ n) e
 
-  pub not-raised-here : {l : Line} {rest : List Line} (j k i : ℕ) → raised book j k ≡ false → drop i (routine book k) ≡ l ∷ rest → raises j l ≡ false
+  pub not-raised-here :
+      {l : Line} {rest : List Line} (j k i : ℕ) → raised book j k ≡ false → drop i (routine book k) ≡ l ∷ rest → raises j l ≡ false
   not-raised-here {l} j k i n e = or-left-false (raises j l) (used false (raised book j) l) (raised-nowhere j k i n e)
 
   pub not-raised-below :
-      {l : Line} {rest : List Line} (j k i : ℕ) → raised book j k ≡ false → drop i (routine book k) ≡ l ∷ rest → used false (raised book j) l ≡ false
+      {l : Line} {rest : List Line} (j k i : ℕ) → raised book j k ≡ false → drop i (routine book k) ≡ l ∷ rest
+      → used false (raised book j) l ≡ false
   not-raised-below {l} j k i n e = or-right-false (raises j l) (used false (raised book j) l) (raised-nowhere j k i n e)
