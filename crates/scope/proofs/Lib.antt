@@ -16,3 +16,4 @@ pub mod Simulation
 pub mod Moves
 pub mod Steady
 pub mod QuoteEnough
+pub mod Slips
