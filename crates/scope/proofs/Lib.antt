@@ -4,3 +4,5 @@ pub mod Samples
 pub mod Calls
 pub mod Refused
 pub mod Sizes
+pub mod Ram
+pub mod StepIsRam

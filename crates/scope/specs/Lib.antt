@@ -17,8 +17,9 @@ pub mod Steps
 pub mod Nested
 -- "Flattening"
 pub mod Flattening
--- "Running"
+-- "Running", and what it is on the source's machine
 pub mod Running
+pub mod Transitions
 -- "Steady routines and the quote"
 pub mod Quote
 -- "Numbers of refusal"
