@@ -6,3 +6,4 @@ pub mod Refused
 pub mod Sizes
 pub mod Ram
 pub mod StepIsRam
+pub mod RunExactly

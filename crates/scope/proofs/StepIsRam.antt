@@ -25,7 +25,7 @@ within-whatever-beyond (x ∷ rs) zero d d′ h = refl
 within-whatever-beyond (x ∷ rs) (suc j) d d′ h = within-whatever-beyond rs j d d′ (omega arith)
 
 -- a register of ours has our value, and a value that we write there stands there
-value-there : (beyond : ℕ → ℕ) (rs : Registers) (j : ℕ) → length rs ≡ register-count → j < register-count → getD rs j (beyond j) ≡ value rs j
+pub value-there : (beyond : ℕ → ℕ) (rs : Registers) (j : ℕ) → length rs ≡ register-count → j < register-count → getD rs j (beyond j) ≡ value rs j
 unfolding value
 value-there beyond rs j len h = within-whatever-beyond rs j (beyond j) 0 (omega (arith, len))
 
@@ -47,6 +47,10 @@ set-within rs j v h w i = go (ℕ-discrete i j)
     go (no n) = rw (getD-set-other rs j i v 0 n) (w i)
 
 -- ---- the step, by cases
+
+pub full-not-final : {P : Program} {c : Configuration} {j : ℕ} → Full P c j → Final P c → ⊥
+unfolding Final
+full-not-final f h = has-not-final (f .before-INC) h
 
 -- what is known of each answer of the step at a line
 pub data Stepped (P : Program) (beyond : ℕ → ℕ) (line : ℕ) (rs : Registers) : Next ℕ → Type 0 where
@@ -155,9 +159,8 @@ module _ {P : Program} (ours : Our-program P) (beyond : ℕ → ℕ) (line : ℕ
       absurd (omega (arith, rw e at (o .above-the-top), value-there beyond rs′ j len′ (o .one-of-ours), w′ w j))
 
   final-is-the-end : {n : Next ℕ} → Final P at-c → Stepped P beyond line rs n → n ≡ at-the-end
-  unfolding configuration Final
   final-is-the-end h (ends f) = refl
-  final-is-the-end h (full f) = absurd (has-not-final (f .before-INC) h)
+  final-is-the-end h (full f) = absurd (full-not-final f h)
   final-is-the-end h (goes nf nu g len′ p w) = absurd (nf h)
 
   pub step-is-ram : Step-is-transition P beyond line rs
