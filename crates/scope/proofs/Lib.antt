@@ -4,6 +4,11 @@ pub mod Samples
 pub mod Calls
 pub mod Refused
 pub mod Sizes
+pub mod Lowest
+pub mod FlatLines
+pub mod Places
+pub mod Simulation
+pub mod Moves
 pub mod Ram
 pub mod StepIsRam
 pub mod RunExactly

@@ -30,3 +30,6 @@ pub mod Shop
 -- "Samples (starred ones are proved)"
 pub mod Cases
 pub mod Samples
+-- words that the laws of proofs/ need and the paper's definitions do not
+pub mod Addresses
+pub mod Moves

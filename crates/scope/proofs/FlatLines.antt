@@ -1,0 +1,126 @@
+-- What stands where in a flat program: a copy is as long as the lengths say, and each line's copy stands where the line starts.
+-- A copy is its lines' copies one after another, so a line's copy stands behind the sum of the lengths before it.
+use Prim.Native.Nat.{ℕ, zero, suc, _+_}
+use native.Mathlib.Omega.{arith}
+use mathlib.Core.Path.{_≡_, refl, sym, _∙_, ap}
+use mathlib.Core.List.{List, [], _∷_, _++_, append-assoc}
+use lib.ListN.{length, take, drop, length-append}
+use lib.Seq.{drop-drop, drop-append-seam}
+use Rattle.scope.specs.Ram.{Instruction, Program}
+use Rattle.scope.specs.Book.{Line, INC, DEC, GO-TO, CALL, REPEAT, Book, routine, Callees-below, said-below, from-the-lowest-up}
+use Rattle.scope.specs.Flattening.{line-length, sum-of, length-by, flat-length, start, copy-line, copy-lines, copy-by, copy, flat-program}
+use Rattle.scope.proofs.Lowest.{flat-length-by-the-rule, copy-by-the-rule}
+
+-- ---- lists
+
+pub drop-tail : {A : Type 0} {x : A} {xs : List A} (ls : List A) (i : ℕ) → drop i ls ≡ x ∷ xs → drop (suc i) ls ≡ xs
+drop-tail ls i e =
+    let z : suc i ≡ i + 1 = omega arith in
+    rw z (sym (drop-drop 1 i ls) ∙ ap (drop 1) e)
+
+-- ---- sums up to a line
+
+module _ (of-line : Line → ℕ) where
+  sum-to-the-next : {l : Line} {rest : List Line} (ls : List Line) (i : ℕ) → drop i ls ≡ l ∷ rest → sum-of of-line (take (suc i) ls) ≡ sum-of of-line (take i ls) + of-line l
+  unfolding sum-of
+  sum-to-the-next {l} [] zero e = let y : _≡_ {A = ℕ} 0 1 = cc in absurd (omega arith)
+  sum-to-the-next {l} [] (suc i) e = let y : _≡_ {A = ℕ} 0 1 = cc in absurd (omega arith)
+  sum-to-the-next {l} (x ∷ ls) zero e = let z : x ≡ l = cc in rw z (omega arith)
+  sum-to-the-next {l} (x ∷ ls) (suc i) e = omega (arith, sum-to-the-next ls i e)
+
+  sum-to-the-end : (ls : List Line) (i : ℕ) → drop i ls ≡ [] → sum-of of-line (take i ls) ≡ sum-of of-line ls
+  unfolding sum-of
+  sum-to-the-end [] zero e = refl
+  sum-to-the-end [] (suc i) e = refl
+  sum-to-the-end (x ∷ ls) zero e = let y : _≡_ {A = ℕ} 0 1 = cc in absurd (omega arith)
+  sum-to-the-end (x ∷ ls) (suc i) e = omega (arith, sum-to-the-end ls i e)
+
+-- ---- a copy is as long as the lengths say
+
+module _ (book : Book) where
+  length-copy-line : (copy : ℕ → ℕ → Program) (length-of : ℕ → ℕ) (as-long : (c b : ℕ) → length (copy c b) ≡ length-of c) (k b p : ℕ) (l : Line)
+      → length (copy-line book copy k b p l) ≡ line-length length-of l
+  unfolding copy-line line-length
+  length-copy-line copy length-of as-long k b p (INC r) = refl
+  length-copy-line copy length-of as-long k b p (DEC r t) = refl
+  length-copy-line copy length-of as-long k b p (GO-TO t) = refl
+  length-copy-line copy length-of as-long k b p (CALL c) = as-long c p
+  length-copy-line copy length-of as-long k b p (REPEAT r c) = rw (length-append (copy c (p + 1)) _, as-long c (p + 1)) (omega arith)
+
+  length-copy-lines : (copy : ℕ → ℕ → Program) (length-of : ℕ → ℕ) (as-long : (c b : ℕ) → length (copy c b) ≡ length-of c) (k b p : ℕ) (ls : List Line)
+      → length (copy-lines book copy k b p ls) ≡ sum-of (line-length length-of) ls
+  unfolding copy-lines sum-of
+  length-copy-lines copy length-of as-long k b p [] = refl
+  length-copy-lines copy length-of as-long k b p (l ∷ ls) = rw (length-append (copy-line book copy k b p l) (copy-lines book copy k b (p + line-length (flat-length book) l) ls), length-copy-line copy length-of as-long k b p l, length-copy-lines copy length-of as-long k b (p + line-length (flat-length book) l) ls) refl
+
+  length-copy-below : (n k b : ℕ) → length (said-below (λ b. []) (copy-by book) n k b) ≡ said-below 0 (length-by book) n k
+  unfolding said-below copy-by length-by
+  length-copy-below zero k b = refl
+  length-copy-below (suc n) k b = length-copy-lines (said-below (λ b. []) (copy-by book) n) (said-below 0 (length-by book) n) (length-copy-below n) k b b (routine book k)
+
+  pub length-copy : (k b : ℕ) → length (copy book k b) ≡ flat-length book k
+  unfolding copy flat-length from-the-lowest-up
+  length-copy k b = length-copy-below (suc k) k b
+
+  pub length-flat-program : (k : ℕ) → length (flat-program book k) ≡ flat-length book k
+  unfolding flat-program
+  length-flat-program k = length-copy k 0
+
+  pub length-line : (k b p : ℕ) (l : Line) → length (copy-line book (copy book) k b p l) ≡ line-length (flat-length book) l
+  length-line = length-copy-line (copy book) (flat-length book) length-copy
+
+  -- A line starts at the sum of the lengths before it.
+  pub first-start : (k : ℕ) → start book k 0 ≡ 0
+  unfolding start sum-of
+  first-start k = refl
+
+  pub next-start : {l : Line} {rest : List Line} (k i : ℕ) → drop i (routine book k) ≡ l ∷ rest → start book k (suc i) ≡ start book k i + line-length (flat-length book) l
+  unfolding start
+  next-start k i e = sum-to-the-next (line-length (flat-length book)) (routine book k) i e
+
+-- ---- what stands at an address
+
+-- from line p of the program on these instructions stand, and others behind them
+pub record Stands (P : Program) (p : ℕ) (xs : Program) : Type 0 where
+  pub behind : Program
+  pub there : drop p P ≡ xs ++ behind
+
+module _ {P : Program} {p : ℕ} where
+  pub front-stands : (xs ys : Program) → Stands P p (xs ++ ys) → Stands P p xs
+  front-stands xs ys s = record { behind = ys ++ s .behind; there = s .there ∙ append-assoc xs ys (s .behind) }
+
+  pub rest-stands : (xs ys : Program) (q : ℕ) → Stands P p (xs ++ ys) → q ≡ p + length xs → Stands P q ys
+  rest-stands xs ys q s e =
+      record {
+        behind = s .behind;
+        there = rw e
+            (sym (drop-drop (length xs) p P) ∙ ap (drop (length xs)) (s .there ∙ append-assoc xs ys (s .behind)) ∙ drop-append-seam xs (ys ++ s .behind));
+      }
+
+module _ (book : Book) (ok : Callees-below book) where
+  -- the end starts at the sum of them all
+  pub end-start : (k i : ℕ) → drop i (routine book k) ≡ [] → start book k i ≡ flat-length book k
+  unfolding start length-by
+  end-start k i e = sum-to-the-end (line-length (flat-length book)) (routine book k) i e ∙ sym (flat-length-by-the-rule book ok k)
+
+  lines-stand : {P : Program} {l : Line} {rest : List Line} (k b q p : ℕ) (ls : List Line) (i : ℕ)
+      → Stands P q (copy-lines book (copy book) k b q ls) → drop i ls ≡ l ∷ rest → p ≡ q + sum-of (line-length (flat-length book)) (take i ls)
+      → Stands P p (copy-line book (copy book) k b p l)
+  unfolding copy-lines sum-of
+  lines-stand {l = l} k b q p [] zero s e a = let y : _≡_ {A = ℕ} 0 1 = cc in absurd (omega arith)
+  lines-stand {l = l} k b q p [] (suc i) s e a = let y : _≡_ {A = ℕ} 0 1 = cc in absurd (omega arith)
+  lines-stand {l = l} k b q p (x ∷ ls) zero s e a =
+      let z : x ≡ l = cc in
+      let w : p ≡ q = omega arith in
+      rw (w, sym z) (front-stands (copy-line book (copy book) k b q x) (copy-lines book (copy book) k b (q + line-length (flat-length book) x) ls) s)
+  lines-stand {l = l} k b q p (x ∷ ls) (suc i) s e a =
+      let next = q + line-length (flat-length book) x in
+      lines-stand k b next p ls i
+      (rest-stands (copy-line book (copy book) k b q x) (copy-lines book (copy book) k b next ls) next s (rw (length-line book k b q x) refl)) e (omega arith)
+
+  -- Line i of a copy of routine k that begins at b stands at b plus where the line starts.
+  pub line-stands : {P : Program} {l : Line} {rest : List Line} {b p : ℕ} (k i : ℕ)
+      → Stands P b (copy book k b) → drop i (routine book k) ≡ l ∷ rest → p ≡ b + start book k i
+      → Stands P p (copy-line book (copy book) k b p l)
+  unfolding start copy-by
+  line-stands {b = b} {p = p} k i s e a = lines-stand k b b p (routine book k) i (rw (copy-by-the-rule book ok k) at s) e a

@@ -1,0 +1,124 @@
+-- From line 0 the flat run ends as the nested reading says: outcome, steps, registers, and the line is the address of the place reached.
+-- At a place reached, the flat line at its address does the nested step and leads to the next place's address; so they go in lockstep.
+use Prim.Native.Nat.{ℕ, zero, suc, _+_}
+use native.Mathlib.Omega.{arith}
+use mathlib.Core.Bool.{Bool, true, false}
+use mathlib.Core.Path.{_≡_, refl, sym, _∙_}
+use mathlib.Core.List.{List, [], _∷_, _++_, append-nil}
+use lib.ListN.{drop}
+use lib.Seq.{drop-length}
+use Rattle.scope.specs.Words.{_is_, if}
+use Rattle.scope.specs.Ram as ram
+use Rattle.scope.specs.Ram.{Program}
+use Rattle.scope.specs.Book.{Line, INC, DEC, GO-TO, CALL, REPEAT, Book, routine, Callees-below}
+use Rattle.scope.specs.Steps.{top, Registers, value, with-value, Next, at-the-end, before-full, goes-to, adds-one, takes-one-from, takes-one-off, Outcome, FINISHED, OUT-OF-STEPS, FULL, End, end, run-on, run-from}
+use Rattle.scope.specs.Nested.{Opened-by, a-CALL, a-REPEAT, Step, inc, dec, go-to, look, go-back, Place, ended, due, settle, nested-step, nested-next, nested-run}
+use Rattle.scope.specs.Flattening.{line-length, flat-length, start, copy-line, copy, flat-program}
+use Rattle.scope.specs.Running.{flat-step, flat-next, flat-run}
+use Rattle.scope.specs.Addresses.{begins, behind-its-start, address}
+use Rattle.scope.proofs.FlatLines.{length-copy, length-flat-program, first-start, next-start, Stands, front-stands, rest-stands, line-stands}
+use Rattle.scope.proofs.Places.{does-inc, does-dec, does-go-to, does-look, does-go-back, Is-open, the-asked, called, repeated, Reached, the-end, a-step, Reached-at, settle-keeps-address}
+
+module _ (book : Book) (asked : ℕ) where
+  -- The flat machine and the nested reading do the same next.
+  data Same-next : Next ℕ → Next Place → Type 0 where
+    both-at-the-end : Same-next at-the-end at-the-end
+    both-before-full : {r : ℕ} → Same-next (before-full r) (before-full r)
+    both-go : {p : ℕ} {place : Place} {rs : Registers} → Reached-at book asked place p → Same-next (goes-to p rs) (goes-to place rs)
+
+  both-add-one : {p : ℕ} {place : Place} (r : ℕ) (rs : Registers) → Reached-at book asked place p → Same-next (adds-one r rs p) (adds-one r rs place)
+  unfolding adds-one if
+  both-add-one {p} {place} r rs g = by-test (value rs r is top)
+    where
+      by-test : (full : Bool) → Same-next (if full (before-full r) (goes-to p (with-value rs r (suc (value rs r))))) (if full (before-full r) (goes-to place (with-value rs r (suc (value rs r)))))
+      by-test true = both-before-full
+      by-test false = both-go g
+
+  both-take-one-off : {p q : ℕ} {on target : Place} (r : ℕ) (rs : Registers) → Reached-at book asked on p → Reached-at book asked target q → Same-next (takes-one-off r rs p q) (takes-one-off r rs on target)
+  unfolding takes-one-off takes-one-from
+  both-take-one-off {p} {q} {on} {target} r rs g h = by-value (value rs r)
+    where
+      by-value : (v : ℕ) → Same-next (takes-one-from v r rs p q) (takes-one-from v r rs on target)
+      by-value zero = both-go h
+      by-value (suc v) = both-go g
+
+  -- how a run ended, in both readings
+  pub record Same-end (flat : End ℕ) (nested : End Place) : Type 0 where
+    pub same-outcome : flat .outcome ≡ nested .outcome
+    pub same-steps : flat .steps ≡ nested .steps
+    pub same-registers : flat .registers ≡ nested .registers
+    pub line-is-address : flat .place ≡ address book asked (nested .place)
+
+  same-end-here : (o : Outcome) (done p : ℕ) (rs : Registers) (place : Place) → Reached-at book asked place p → Same-end (end o done p rs) (end o done place rs)
+  same-end-here o done p rs place g = record { same-outcome = refl; same-steps = refl; same-registers = refl; line-is-address = sym (g .its-address) }
+
+module _ (book : Book) (ok : Callees-below book) (asked : ℕ) where
+  -- the flat program of the asked routine, and what a REPEAT leaves at p over routine c
+  abbrev flat : Program
+  flat = flat-program book asked
+
+  abbrev repeat : (p r c : ℕ) → Program
+  repeat p r c = ram.DEC r (p + flat-length book c + 2) ∷ (copy book c (p + 1) ++ (ram.GO-TO p ∷ []))
+
+  repeated-copy-stands : {p q : ℕ} (r c : ℕ) → Stands flat p (repeat p r c) → q ≡ p + 1 → Stands flat q (copy book c (p + 1) ++ (ram.GO-TO p ∷ []))
+  repeated-copy-stands {p} {q} r c s e = rest-stands (ram.DEC r (p + flat-length book c + 2) ∷ []) (copy book c (p + 1) ++ (ram.GO-TO p ∷ [])) q s e
+
+  -- The copy of an open routine stands where it begins.
+  copy-stands : {k : ℕ} {around : List Opened-by} → Is-open book asked k around → Stands flat (begins book around) (copy book k (begins book around))
+  unfolding begins flat-program copy-line
+  copy-stands the-asked = record { behind = []; there = sym (append-nil (copy book asked 0)) }
+  copy-stands {around = a-CALL k i ∷ around} (called e o) = line-stands book ok k i (copy-stands o) e refl
+  copy-stands {around = a-REPEAT k i ∷ around} (repeated {r = r} {c = c} e o) =
+      let p = begins book around + start book k i in
+      front-stands (copy book c (p + 1)) (ram.GO-TO p ∷ []) (repeated-copy-stands r c (line-stands book ok k i (copy-stands o) e refl) refl)
+
+  -- What a line of an open routine left stands at its address.
+  left-stands : {k : ℕ} {around : List Opened-by} {l : Line} {rest : List Line} (i p : ℕ) → drop i (routine book k) ≡ l ∷ rest → Is-open book asked k around → p ≡ begins book around + start book k i → Stands flat p (copy-line book (copy book) k (begins book around) p l)
+  left-stands {k} i p e o a = line-stands book ok k i (copy-stands o) e a
+
+  flat-next-there : {p : ℕ} (rs : Registers) (x : ram.Instruction) (xs : Program) (s : Stands flat p (x ∷ xs)) → flat-next flat p rs ≡ flat-step p (x ∷ (xs ++ s .behind)) rs
+  unfolding flat-next
+  flat-next-there rs x xs s = rw (s .there) refl
+
+  -- behind line i stands the next line, its length further on
+  goes-on : {k : ℕ} {around : List Opened-by} {l : Line} {rest : List Line} (i q : ℕ) → drop i (routine book k) ≡ l ∷ rest → Is-open book asked k around → q ≡ begins book around + start book k i + line-length (flat-length book) l → Reached-at book asked (settle book k (suc i) around) q
+  goes-on {k} {around} {l} i q e o a = settle-keeps-address book ok asked k (suc i) around o (omega (arith, next-start book k i e))
+
+  same-next-at : {place : Place} (p : ℕ) (rs : Registers) → Reached book asked place → address book asked place ≡ p → Same-next book asked (flat-next flat p rs) (nested-next book place rs)
+  unfolding address behind-its-start nested-next nested-step copy-line flat-step line-length flat-next begins
+  same-next-at p rs the-end a = rw (sym a ∙ sym (length-flat-program book asked), drop-length flat) both-at-the-end
+  same-next-at {place = due d k i around} p rs (a-step e (does-inc {r = r}) o) a =
+      rw (flat-next-there rs (ram.INC r) [] (left-stands i p e o (omega arith))) (both-add-one book asked r rs (goes-on i (suc p) e o (omega arith)))
+  same-next-at {place = due d k i around} p rs (a-step e (does-dec {r = r} {t = t}) o) a =
+      rw (flat-next-there rs (ram.DEC r (begins book around + start book k t)) [] (left-stands i p e o (omega arith)))
+      (both-take-one-off book asked r rs (goes-on i (suc p) e o (omega arith)) (settle-keeps-address book ok asked k t around o refl))
+  same-next-at {place = due d k i around} p rs (a-step e (does-go-to {t = t}) o) a =
+      rw (flat-next-there rs (ram.GO-TO (begins book around + start book k t)) [] (left-stands i p e o (omega arith)))
+      (both-go (settle-keeps-address book ok asked k t around o refl))
+  same-next-at {place = due d k i around} p rs (a-step e (does-look {r = r} {c = c}) o) a =
+      rw (flat-next-there rs (ram.DEC r (p + flat-length book c + 2)) (copy book c (p + 1) ++ (ram.GO-TO p ∷ [])) (left-stands i p e o (omega arith)))
+      (both-take-one-off book asked r rs
+      (settle-keeps-address book ok asked c 0 (a-REPEAT k i ∷ around) (repeated e o) (omega (arith, first-start book c)))
+      (goes-on i (p + flat-length book c + 2) e o (omega arith)))
+  same-next-at {place = due d k i around} p rs (a-step e (does-go-back {r = r} {c = c}) o) a =
+      let q = begins book around + start book k i in
+      let s = repeated-copy-stands r c (left-stands i q e o refl) refl in
+      let t = rest-stands (copy book c (q + 1)) (ram.GO-TO q ∷ []) p s (omega (arith, length-copy book c (q + 1))) in
+      rw (flat-next-there rs (ram.GO-TO q) [] t) (both-go (settle-keeps-address book ok asked k i around o refl))
+
+  same-end-on : (left done p : ℕ) (rs : Registers) (place : Place) {next : Next ℕ} {nested : Next Place} → Reached-at book asked place p → Same-next book asked next nested
+      → Same-end book asked (run-on (flat-next flat) left done p rs next) (run-on (nested-next book) left done place rs nested)
+  unfolding run-on
+  same-end-on zero done p rs place g both-at-the-end = same-end-here book asked FINISHED done p rs place g
+  same-end-on zero done p rs place g both-before-full = same-end-here book asked OUT-OF-STEPS done p rs place g
+  same-end-on zero done p rs place g (both-go h) = same-end-here book asked OUT-OF-STEPS done p rs place g
+  same-end-on (suc left) done p rs place g both-at-the-end = same-end-here book asked FINISHED done p rs place g
+  same-end-on (suc left) done p rs place g (both-before-full {r = r}) = same-end-here book asked (FULL r) done p rs place g
+  same-end-on (suc left) done p rs place g (both-go {p = p′} {place = place′} {rs = rs′} h) = same-end-on left (suc done) p′ rs′ place′ h (same-next-at p′ rs′ (h .reached) (h .its-address))
+
+  -- Demand 3: for every book whose callees lie below their callers, every routine, of any flat length, all registers, every budget.
+  pub simulation : (budget : ℕ) (rs : Registers) → Same-end book asked (flat-run flat 0 budget rs) (nested-run book asked budget rs)
+  unfolding flat-run nested-run run-from begins
+  simulation budget rs =
+      let g : Reached-at book asked (settle book asked 0 []) 0 = settle-keeps-address book ok asked asked 0 [] the-asked (omega (arith, first-start book asked)) in
+      same-end-on budget 0 0 rs (settle book asked 0 []) g (same-next-at 0 rs (g .reached) (g .its-address))
