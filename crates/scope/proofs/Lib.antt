@@ -12,3 +12,4 @@ pub mod Moves
 pub mod Ram
 pub mod StepIsRam
 pub mod RunExactly
+pub mod Depth

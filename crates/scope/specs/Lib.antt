@@ -17,9 +17,8 @@ pub mod Steps
 pub mod Nested
 -- "Flattening"
 pub mod Flattening
--- "Running", and what it is on the source's machine
+-- "Running"
 pub mod Running
-pub mod Transitions
 -- "Steady routines and the quote"
 pub mod Quote
 -- "Numbers of refusal"
@@ -33,3 +32,5 @@ pub mod Samples
 -- words that the laws of proofs/ need and the paper's definitions do not
 pub mod Addresses
 pub mod Moves
+pub mod Transitions
+pub mod Depth
