@@ -1,15 +1,15 @@
 -- Source document 000, Lemma 1.9: every configuration goes to exactly one configuration.
 -- The one that it goes to is a function of the instruction at PC, and each of the five rules says what that function does. Assumes nothing.
-use Prim.Native.Nat.{ℕ, zero, suc, _+_, _-_, _≤_, _<_}
-use mathlib.Core.Bool.{Bool, true, false}
+use Prim.Native.Nat.{ℕ, zero, suc, _+_, _-_, _≤_, _<_, max}
 use mathlib.Core.Path.{_≡_, refl, sym, _∙_}
+use mathlib.Core.Logic.{_≢_}
 use mathlib.Core.List.{[], _∷_}
 use native.Mathlib.Omega.{arith}
 use native.Mathlib.Decide.{ℕ-discrete}
 use lib.ListN.{length, drop, length-drop, drop-of-length-le}
-use lib.Dec.{T, eqb, eqb→eq, eqb-refl}
+use borrow.Author.Tests.{eq-eqb, ne-eqb}
 use Rattle.scope.specs.Words.{_is_, if}
-use Rattle.scope.specs.Ram.{Instruction, INC, DEC, GO-TO, Program, Has, has, Configuration, Final, All-registers-stay, Other-registers-stay, Goes-to, final, rule-1, rule-2, rule-3, rule-4}
+use Rattle.scope.specs.Ram.{Instruction, INC, DEC, GO-TO, Program, Has, has, Target-within, Targets-within, Configuration, Is-configuration, Final, All-registers-stay, Other-registers-stay, Goes-to, final, rule-1, rule-2, rule-3, rule-4}
 
 -- ---- the instruction with a number
 
@@ -26,7 +26,7 @@ has-not-final h e = omega (arith, has-below h, e)
 
 -- ---- equal configurations
 
-pub same-configuration : {c d : Configuration} → c .pc ≡ d .pc → ((i : ℕ) → c .registers i ≡ d .registers i) → c ≡ d
+same-configuration : {c d : Configuration} → c .pc ≡ d .pc → ((i : ℕ) → c .registers i ≡ d .registers i) → c ≡ d
 same-configuration l r = λ k. record { registers = λ i. r i k; pc = l k }
 
 -- ---- the configuration that one goes to
@@ -37,20 +37,13 @@ with-register f j v i = if (i is j) v (f i)
 
 with-register-there : (f : ℕ → ℕ) (j v : ℕ) → with-register f j v j ≡ v
 unfolding with-register if
-with-register-there f j v = go (eqb j j) refl (eqb-refl j)
-  where
-    go : (t : Bool) → eqb j j ≡ t → T t → with-register f j v j ≡ v
-    go true e h = rw (e, with-register)
+with-register-there f j v = rw (eq-eqb j j refl)
 
-with-register-elsewhere : (f : ℕ → ℕ) (j v i : ℕ) → (i ≡ j → ⊥) → with-register f j v i ≡ f i
+with-register-elsewhere : (f : ℕ → ℕ) (j v i : ℕ) → i ≢ j → with-register f j v i ≡ f i
 unfolding with-register if
-with-register-elsewhere f j v i n = go (eqb i j) refl
-  where
-    go : (t : Bool) → eqb i j ≡ t → with-register f j v i ≡ f i
-    go true e = absurd (n (eqb→eq i j (rw e tt)))
-    go false e = rw (e, with-register)
+with-register-elsewhere f j v i n = rw (ne-eqb i j n)
 
-with-register-is : (f g : ℕ → ℕ) (j v : ℕ) → g j ≡ v → ((i : ℕ) → (i ≡ j → ⊥) → g i ≡ f i) → (i : ℕ) → g i ≡ with-register f j v i
+with-register-is : (f g : ℕ → ℕ) (j v : ℕ) → g j ≡ v → ((i : ℕ) → i ≢ j → g i ≡ f i) → (i : ℕ) → g i ≡ with-register f j v i
 with-register-is f g j v h o i = go (ℕ-discrete i j)
   where
     go : Dec (i ≡ j) → g i ≡ with-register f j v i
@@ -107,3 +100,35 @@ INC-adds {j} h (rule-1 {j = k} i v l r) = let z : k ≡ j = cc (has-one h i) in 
 INC-adds h (rule-2 i v l r) = let y : _≡_ {A = ℕ} 0 1 = cc (has-one h i) in absurd (omega arith)
 INC-adds h (rule-3 i v l r) = let y : _≡_ {A = ℕ} 0 1 = cc (has-one h i) in absurd (omega arith)
 INC-adds h (rule-4 i l r) = let y : _≡_ {A = ℕ} 0 1 = cc (has-one h i) in absurd (omega arith)
+
+-- ---- it is a configuration again: 0 almost everywhere, with PC at most n
+
+module _ {P : Program} {c d : Configuration} (ok : Is-configuration P c) where
+  all-stay : All-registers-stay c d → d .pc ≤ length P → Is-configuration P d
+  unfolding All-registers-stay
+  all-stay r l = record { bound = ok .bound; zero-from-the-bound-on = λ i h. r i ∙ ok .zero-from-the-bound-on i h; pc-within = l }
+
+  others-stay : (j : ℕ) → Other-registers-stay j c d → d .pc ≤ length P → Is-configuration P d
+  unfolding Other-registers-stay
+  others-stay j r l =
+      record {
+        bound = max (ok .bound) (suc j);
+        zero-from-the-bound-on = λ i h. r i (λ e. omega (arith, e)) ∙ ok .zero-from-the-bound-on i (omega arith);
+        pc-within = l;
+      }
+
+configuration-again : {P : Program} {c d : Configuration} → Targets-within P → Is-configuration P c → Goes-to P c d → Is-configuration P d
+unfolding Target-within Targets-within
+configuration-again t ok (final f l r) = all-stay ok r (omega (arith, l, ok .pc-within))
+configuration-again t ok (rule-1 {j} h v l r) = others-stay ok j r (omega (arith, l, has-below h))
+configuration-again t ok (rule-2 {j} h v l r) = others-stay ok j r (omega (arith, l, has-below h))
+configuration-again {c} t ok (rule-3 {j} {l = k} h v l r) = all-stay ok r (omega (arith, l, t (c .pc) (DEC j k) h))
+configuration-again {c} t ok (rule-4 {l = k} h l r) = all-stay ok r (omega (arith, l, t (c .pc) (GO-TO k) h))
+
+-- Lemma 1.9, whole
+pub goes-to-exactly-one :
+    {P : Program} {c : Configuration} → Targets-within P → Is-configuration P c
+    → (d : Configuration) × Is-configuration P d × Goes-to P c d × ((e : Configuration) → Goes-to P c e → d ≡ e)
+goes-to-exactly-one {P} {c} t ok =
+    let (d, g) = some-transition P c (ok .pc-within) in
+    (d, configuration-again t ok g, g, λ e h. one-transition g h)

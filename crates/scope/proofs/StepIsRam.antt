@@ -9,7 +9,8 @@ use native.Mathlib.Omega.{arith}
 use native.Mathlib.Decide.{ℕ-discrete}
 use lib.ListN.{length, drop, getD, set, length-drop, length-set}
 use lib.Seq.{getD-set-same, getD-set-other}
-use lib.Dec.{eqb, eqb→eq, eqb-refl, T-not}
+use lib.Dec.{eqb}
+use borrow.Author.Tests.{eqb-true, eqb-false}
 use Rattle.scope.specs.Words.{if}
 use Rattle.scope.specs.Ram.{INC, DEC, GO-TO, Program, Has, has, Target-within, Targets-within, Configuration, Final, All-registers-stay, Other-registers-stay, Goes-to, final, rule-1, rule-2, rule-3, rule-4}
 use Rattle.scope.specs.Steps.{register-count, top, Registers, value, with-value, Next, at-the-end, before-full, goes-to, adds-one, takes-one-from, takes-one-off}
@@ -72,9 +73,9 @@ module _ {P : Program} (ours : Our-program P) (beyond : ℕ → ℕ) (line : ℕ
       j<32 = ours .registers-within line (INC j) h
 
       go : (t : Bool) → eqb (value rs j) top ≡ t → Stepped P beyond line rs (if t (before-full j) (goes-to (suc line) (with-value rs j (suc (value rs j)))))
-      go true e = full (record { before-INC = h; at-the-top = value-there beyond rs j len j<32 ∙ eqb→eq (value rs j) top (rw e tt) })
+      go true e = full (record { before-INC = h; at-the-top = value-there beyond rs j len j<32 ∙ eqb-true (value rs j) top e })
       go false e =
-          let below : value rs j ≢ top = λ z. T-not (eqb (value rs j) top) (rw e tt) (rw z (eqb-refl top)) in
+          let below : value rs j ≢ top = eqb-false (value rs j) top e in
           goes {p′ = suc line} {rs′ = with-value rs j (suc (value rs j))}
           (has-not-final h)
           (λ i f. let z : i ≡ j = cc (has-one (f .before-INC) h) in below (sym (value-there beyond rs j len j<32) ∙ (rw z at (f .at-the-top))))
