@@ -66,7 +66,7 @@ pub data Stepped (P : Program) (beyond : ℕ → ℕ) (line : ℕ) (rs : Registe
 
 module _ {P : Program} (ours : Our-program P) (beyond : ℕ → ℕ) (line : ℕ) (rs : Registers) (len : length rs ≡ register-count) where
   stepped-INC : (j : ℕ) → Has P line (INC j) → Stepped P beyond line rs (adds-one j rs (suc line))
-  unfolding configuration Final Register-within Registers-within Other-registers-stay value with-value adds-one if Values-within
+  unfolding configuration Final Register-within Registers-within Other-registers-stay with-value adds-one if Values-within
   stepped-INC j h = go (eqb (value rs j) top) refl
     where
       j<32 : j < register-count
@@ -85,7 +85,7 @@ module _ {P : Program} (ours : Our-program P) (beyond : ℕ → ℕ) (line : ℕ
           (λ w. set-within rs j (suc (value rs j)) (omega (arith, w j)) w)
 
   stepped-DEC : (j l : ℕ) → Has P line (DEC j l) → Stepped P beyond line rs (takes-one-off j rs (suc line) l)
-  unfolding configuration Final Register-within Registers-within Target-within Targets-within All-registers-stay Other-registers-stay value with-value takes-one-off takes-one-from Values-within
+  unfolding configuration Final Register-within Registers-within Target-within Targets-within All-registers-stay Other-registers-stay with-value takes-one-off takes-one-from Values-within
   stepped-DEC j l h = go (value rs j) refl
     where
       j<32 : j < register-count
@@ -146,7 +146,7 @@ module _ {P : Program} (ours : Our-program P) (beyond : ℕ → ℕ) (line : ℕ
       }
 
   overflow-is-full : Values-within rs → (j : ℕ) → Overflows P at-c j → {n : Next ℕ} → Stepped P beyond line rs n → n ≡ before-full j
-  unfolding configuration Final All-registers-stay Other-registers-stay Values-within
+  unfolding configuration All-registers-stay Other-registers-stay Values-within
   overflow-is-full w j o (ends f) =
       let e : o .after ≡ at-c = one-transition (o .transition) (final f refl (λ i. refl)) in
       absurd (omega (arith, rw e at (o .above-the-top), value-there beyond rs j len (o .one-of-ours), w j))
