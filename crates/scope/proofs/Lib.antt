@@ -4,6 +4,11 @@ pub mod Samples
 pub mod Calls
 pub mod Refused
 pub mod Sizes
+pub mod Verdicts
+pub mod GivenExactlyWhen
+pub mod GivenByCalls
+pub mod Listed
+pub mod TakenBook
 pub mod Lowest
 pub mod FlatLines
 pub mod Places

@@ -23,6 +23,8 @@ pub mod Running
 pub mod Quote
 -- "Numbers of refusal"
 pub mod Refusals
+pub mod Given
+pub mod GivenByCalls
 -- "The shop's program and the page"
 pub mod Page
 pub mod Shop

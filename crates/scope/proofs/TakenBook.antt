@@ -1,0 +1,174 @@
+-- What a taken book gives, in plain facts: its counts and length, its table in order, its lines; and the same of the book that its bytes say.
+-- Read off `taken-exactly-when`, test by test; the decoded lines stand in lists by a rule. Assumes nothing.
+use Prim.Native.Nat.{ℕ, zero, suc, _+_, _-_, _<_, _≤_}
+use native.Mathlib.Omega.{arith}
+use mathlib.Core.Path.{_≡_, refl, sym, _∙_, ap}
+use mathlib.Core.Logic.{inl, inr, ⊎-elim}
+use mathlib.Core.List.{List, [], _∷_}
+use lib.ListN.{length, drop, drop-of-length-le, List·getD-eq-default}
+use Rattle.scope.specs.Words.{listed}
+use Rattle.scope.specs.Book.{most-routines, most-lines, last-register, routines, lines, stated-length, length-due, first-line, count, first-line-due, Line-fields, Line, INC, DEC, GO-TO, CALL, REPEAT, INC-kind, DEC-kind, GO-TO-kind, CALL-kind, REPEAT-kind, line-of, fields-in, Taken, routine, routine-of, book-of, Line-uses, by-CALL, by-REPEAT, Callees-below}
+use Rattle.scope.specs.Given.{Wrong-counts, Wrong-offsets, Wrong-length, Wrong-entry, Wrong-end, Wrong-kind, Zero-stands, Wrong-register, Has-target, Wrong-target, Has-callee, Wrong-callee, Good-line, Good-in}
+use Rattle.scope.proofs.Verdicts.{one-holds, else-holds, above-tells, below-tells, not-below-tells, is-tells, is-not-tells, or-tells, either-way}
+use Rattle.scope.proofs.Listed.{length-listed, listed-at, listed-from}
+use Rattle.scope.proofs.GivenExactlyWhen.{routines-in-order, taken-exactly-when}
+
+-- ---- the bytes
+
+-- the fields of a line of routine r, which has n lines
+pub record Taken-line (f : Line-fields) (r n : ℕ) : Type 0 where
+  pub kind-from-1 : INC-kind ≤ f .kind
+  pub kind-to-5 : f .kind ≤ REPEAT-kind
+  pub register-to-31 : f .register ≤ last-register
+  pub zero-where-0-stands : Zero-stands f → f .register ≡ 0
+  pub target-to-the-end : Has-target f → f .operand ≤ n
+  pub INC-operand-0 : f .kind ≡ INC-kind → f .operand ≡ 0
+  pub callee-below : Has-callee f → f .operand < r
+
+-- how many lines the routines below r have
+unfoldable pub lines-below : List ℕ → ℕ → ℕ
+lines-below b zero = 0
+lines-below b (suc r) = lines-below b r + count b r
+
+pub record Taken-book (b : List ℕ) : Type 0 where
+  pub some-routine : 1 ≤ routines b
+  pub routines-to-32 : routines b ≤ most-routines
+  pub lines-to-4096 : lines b ≤ most-lines
+  pub length-as-due : length b ≡ length-due (routines b) (lines b)
+  pub starts-where-due : (r : ℕ) → r < routines b → first-line b r ≡ first-line-due b r
+  pub last-ends-at-L : first-line-due b (routines b) ≡ lines b
+  pub in-order : (r q : ℕ) → r < q → q < routines b → first-line b r + count b r ≤ first-line b q
+  pub ends-within : (r : ℕ) → r < routines b → first-line b r + count b r ≤ lines b
+  pub starts-after-those-below : (r : ℕ) → r < routines b → first-line b r ≡ lines-below b r
+  pub counts-sum-to-L : lines-below b (routines b) ≡ lines b
+  pub lines-right : (r j : ℕ) → r < routines b → j < count b r → Taken-line (fields-in b r j) r (count b r)
+
+good-line-is-taken : (f : Line-fields) (r n : ℕ) → Good-line f r n → Taken-line f r n
+unfolding Wrong-kind Wrong-register Wrong-target Wrong-callee
+good-line-is-taken f r n g =
+    let k = else-holds (or-tells (below-tells (f .kind) INC-kind) (above-tells (f .kind) REPEAT-kind)) (g .kind-right) in
+    record {
+      kind-from-1 = k .0;
+      kind-to-5 = k .1;
+      register-to-31 = else-holds (above-tells (f .register) last-register) (λ w. g .register-right (inl w));
+      zero-where-0-stands = λ z. else-holds (is-not-tells (f .register) 0) (λ w. g .register-right (inr (z, w)));
+      target-to-the-end = λ t. else-holds (above-tells (f .operand) n) (λ w. g .target-right (inl (t, w)));
+      INC-operand-0 = λ i. else-holds (is-not-tells (f .operand) 0) (λ w. g .target-right (inr (i, w)));
+      callee-below = λ c. else-holds (not-below-tells (f .operand) r) (λ w. g .callee-right (c, w));
+    }
+
+below-is-due : (b : List ℕ) → ((r : ℕ) → r < routines b → first-line b r ≡ first-line-due b r) → (r : ℕ) → r ≤ routines b → first-line-due b r ≡ lines-below b r
+unfolding first-line-due lines-below
+below-is-due b starts zero h = refl
+below-is-due b starts (suc r) h = rw (starts r h, below-is-due b starts r (omega arith))
+
+-- the last routine ends at L, and every other before the last
+all-end-within : (b : List ℕ) → ((r q : ℕ) → r < q → q < routines b → first-line b r + count b r ≤ first-line b q) → (n r : ℕ) → n ≡ routines b → r < n
+    → first-line-due b n ≡ lines b → first-line b r + count b r ≤ lines b
+unfolding first-line-due
+all-end-within b order zero r e h l = absurd (omega arith)
+all-end-within b order (suc n) r e h l =
+    ⊎-elim (λ (s : r < n). omega (arith, order r n s (omega arith))) (λ (s : n ≤ r).
+    let same : n ≡ r = omega arith in
+    omega (arith, ap (λ i. first-line b i + count b i) same)) (one-holds (below-tells r n))
+
+pub taken-book : (b : List ℕ) → Taken b → Taken-book b
+unfolding Wrong-counts Wrong-offsets Wrong-length Wrong-entry Wrong-end Good-in
+taken-book b t =
+    let g = taken-exactly-when b .0 t in
+    let c = else-holds (or-tells (is-tells (routines b) 0) (or-tells (above-tells (routines b) most-routines) (above-tells (lines b) most-lines))) (g .counts-right) in
+    let o = else-holds (is-not-tells (stated-length b) (length-due (routines b) (lines b))) (λ w. g .offsets-right (inr (inr w))) in
+    let s : (r : ℕ) → r < routines b → first-line b r ≡ first-line-due b r = λ r h. else-holds (is-not-tells (first-line b r) (first-line-due b r)) (g .entries-right r h) in
+    let e = else-holds (is-not-tells (first-line-due b (routines b)) (lines b)) (g .end-right) in
+    let order = routines-in-order b (g .entries-right) in
+    record {
+      some-routine = omega (arith, c .0);
+      routines-to-32 = c .1 .0;
+      lines-to-4096 = c .1 .1;
+      length-as-due = else-holds (is-not-tells (length b) (stated-length b)) (g .length-right) ∙ o;
+      starts-where-due = s;
+      last-ends-at-L = e;
+      in-order = order;
+      ends-within = λ r h. all-end-within b order (routines b) r refl h e;
+      starts-after-those-below = λ r h. s r h ∙ below-is-due b s r (omega arith);
+      counts-sum-to-L = sym (below-is-due b s (routines b) (omega arith)) ∙ e;
+      lines-right = λ r j h l. good-line-is-taken (fields-in b r j) r (count b r) (g .lines-good r j h l);
+    }
+
+-- ---- the book that the bytes say
+
+pub routine-in-the-book : (b : List ℕ) (k : ℕ) → k < routines b → routine (book-of b) k ≡ routine-of b k
+unfolding routine book-of
+routine-in-the-book b k h = listed-at (routine-of b) 0 (routines b) k k [] h (omega arith)
+
+pub no-routine-from-R-on : (b : List ℕ) (k : ℕ) → routines b ≤ k → routine (book-of b) k ≡ []
+unfolding routine book-of
+no-routine-from-R-on b k h = List·getD-eq-default (book-of b) [] (rw (length-listed (routine-of b) 0 (routines b)) h)
+
+pub length-routine-of : (b : List ℕ) (r : ℕ) → length (routine-of b r) ≡ count b r
+unfolding routine-of
+length-routine-of b r = length-listed _ 0 (count b r)
+
+-- Line j of routine r stands at j, and behind it the lines after it.
+pub stands-in-its-routine : (b : List ℕ) (r j : ℕ) → j < count b r → drop j (routine-of b r) ≡ line-of (fields-in b r j) ∷ drop (suc j) (routine-of b r)
+unfolding routine-of listed
+stands-in-its-routine b r j h =
+    let rule : ℕ → Line = λ i. line-of (fields-in b r i) in
+    listed-from rule 0 (count b r) j j (suc (count b r - suc j)) (omega arith) (omega arith)
+    ∙ ap (λ ls. line-of (fields-in b r j) ∷ ls) (sym (listed-from rule 0 (count b r) (suc j) (suc j) (count b r - suc j) (omega arith) (omega arith)))
+
+-- What stands in the book at line j of routine k is line j of that routine.
+pub record Stands-in (b : List ℕ) (k j : ℕ) (l : Line) : Type 0 where
+  pub in-the-book : k < routines b
+  pub in-the-routine : j < count b k
+  pub the-line : l ≡ line-of (fields-in b k j)
+
+nothing-stands : {A : Type 0} {l : Line} {ls : List Line} → [] ≡ l ∷ ls → A
+nothing-stands e =
+    let y : _≡_ {A = ℕ} 0 1 = cc in
+    absurd (omega arith)
+
+pub what-stands : (b : List ℕ) (k j : ℕ) {l : Line} {ls : List Line} → drop j (routine (book-of b) k) ≡ l ∷ ls → Stands-in b k j l
+what-stands b k j {l} e =
+    ⊎-elim (λ (h : k < routines b).
+    let f = rw (routine-in-the-book b k h) at e in
+    ⊎-elim (λ (g : j < count b k).
+    let s = stands-in-its-routine b k j g in
+    let z : l ≡ line-of (fields-in b k j) = cc in
+    record { in-the-book = h; in-the-routine = g; the-line = z })
+    (λ (g : count b k ≤ j). nothing-stands (sym (drop-of-length-le (routine-of b k) {i = j} (rw (length-routine-of b k) g)) ∙ f)) (one-holds (below-tells j (count b k))))
+    (λ (h : routines b ≤ k). nothing-stands (sym (drop-of-length-le [] {i = j} (omega arith)) ∙ (rw (no-routine-from-R-on b k h) at e))) (one-holds (below-tells k (routines b)))
+
+-- a line of routine k, which has n lines: its register is a register, its target a line or the end, its callee below
+pub data Line-fits (k n : ℕ) : Line → Type 0 where
+  INC-fits : {r : ℕ} → r ≤ last-register → Line-fits k n (INC r)
+  DEC-fits : {r t : ℕ} → r ≤ last-register → t ≤ n → Line-fits k n (DEC r t)
+  GO-TO-fits : {t : ℕ} → t ≤ n → Line-fits k n (GO-TO t)
+  CALL-fits : {c : ℕ} → c < k → Line-fits k n (CALL c)
+  REPEAT-fits : {r c : ℕ} → r ≤ last-register → c < k → Line-fits k n (REPEAT r c)
+
+taken-line-fits : (f : Line-fields) (k n : ℕ) → Taken-line f k n → Line-fits k n (line-of f)
+unfolding line-of Has-target Has-callee
+taken-line-fits f k n t =
+    either-way (Line-fits k n) (is-tells (f .kind) INC-kind) (λ i. INC-fits (t .register-to-31)) λ n1.
+    either-way (Line-fits k n) (is-tells (f .kind) DEC-kind) (λ i. DEC-fits (t .register-to-31) (t .target-to-the-end (inl i))) λ n2.
+    either-way (Line-fits k n) (is-tells (f .kind) GO-TO-kind) (λ i. GO-TO-fits (t .target-to-the-end (inr i))) λ n3.
+    either-way (Line-fits k n) (is-tells (f .kind) CALL-kind) (λ i. CALL-fits (t .callee-below (inl i))) λ n4.
+    REPEAT-fits (t .register-to-31) (t .callee-below (inr (omega (arith, t .kind-from-1, t .kind-to-5))))
+
+-- Every line of a taken book fits.
+pub taken-lines-fit : (b : List ℕ) → Taken b → (k j : ℕ) {l : Line} {ls : List Line} → drop j (routine (book-of b) k) ≡ l ∷ ls
+    → Line-fits k (length (routine (book-of b) k)) l
+taken-lines-fit b t k j e =
+    let s = what-stands b k j e in
+    rw (routine-in-the-book b k (s .in-the-book), length-routine-of b k, s .the-line)
+    (taken-line-fits (fields-in b k j) k (count b k) (taken-book b t .lines-right k j (s .in-the-book) (s .in-the-routine)))
+
+used-is-below : {k n c : ℕ} {l : Line} → Line-fits k n l → Line-uses l c → c < k
+used-is-below (CALL-fits h) by-CALL = h
+used-is-below (REPEAT-fits r h) by-REPEAT = h
+
+-- In a taken book CALL and REPEAT name only a routine with a number below their own.
+pub taken-callees-below : (b : List ℕ) → Taken b → Callees-below (book-of b)
+unfolding Callees-below
+taken-callees-below b t k c u = used-is-below (taken-lines-fit b t k (u .at-line) (u .stands)) (u .line-uses)
