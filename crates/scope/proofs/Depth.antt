@@ -1,4 +1,4 @@
--- The depth of a routine is that of its deepest chain of routines open inside one another, and it is at most one more than its number.
+-- The depth of a routine is that of its deepest chain of routines open inside one another. In a taken book it is at most 32.
 -- A chain goes down in number at each use, and of the routines used the deepest is one of them. Assumes nothing.
 use Prim.Native.Nat.{ℕ, zero, suc, _+_, _≤_, _<_, max}
 use mathlib.Core.Path.{_≡_, refl}
@@ -6,10 +6,11 @@ use mathlib.Core.List.{List, [], _∷_}
 use native.Mathlib.Omega.{arith}
 use native.Mathlib.Decide.{decLe}
 use lib.ListN.{drop}
-use Rattle.scope.specs.Book.{Line, INC, DEC, GO-TO, CALL, REPEAT, Book, routine, used, Line-uses, by-CALL, by-REPEAT, Uses, Callees-below}
-use Rattle.scope.specs.Flattening.{deepest, depth-by, depth}
+use Rattle.scope.specs.Book.{routines, Line, INC, DEC, GO-TO, CALL, REPEAT, Taken, Book, routine, book-of, used, Line-uses, by-CALL, by-REPEAT, Uses, Callees-below}
+use Rattle.scope.specs.Flattening.{most-open, deepest, depth-by, depth}
 use Rattle.scope.specs.Depth.{Opened, alone, around}
 use Rattle.scope.proofs.Lowest.{depth-by-the-rule}
+use Rattle.scope.proofs.TakenBook.{taken-book, taken-callees-below}
 
 -- ---- the deepest of the routines that some lines use
 
@@ -96,3 +97,8 @@ module _ (book : Book) (ok : Callees-below book) where
 
   pub depth-at-most : (a : ℕ) → depth book a ≤ suc a
   depth-at-most a = omega (arith, opens-below (depth-reached a .1))
+
+-- ---- a taken book has at most 32 routines
+
+pub no-more-than-32-open : (b : List ℕ) → Taken b → (k : ℕ) → k < routines b → depth (book-of b) k ≤ most-open
+no-more-than-32-open b t k h = omega (arith, depth-at-most (book-of b) (taken-callees-below b t) k, taken-book b t .routines-to-32)

@@ -18,3 +18,4 @@ pub mod Ram
 pub mod StepIsRam
 pub mod RunExactly
 pub mod Depth
+pub mod TakenProgram
