@@ -7,18 +7,19 @@ use mathlib.Core.Bool.{Bool, true, false}
 use mathlib.Core.Path.{_≡_, refl, sym, subst⁻¹}
 use mathlib.Core.List.{List, [], _∷_}
 use lib.ListN.{drop}
-use lib.Seq.{drop-nil, getD-set-other}
+use lib.Seq.{drop-nil}
 use borrow.Author.Tests.{ltb-true, eqb-false}
 use Rattle.scope.specs.Words.{_is_, if}
 use Rattle.scope.specs.Book.{Line, INC, DEC, GO-TO, CALL, REPEAT, Book, routine, used, Callees-below}
-use Rattle.scope.specs.Steps.{top, Registers, value, with-value, Next, at-the-end, before-full, goes-to, adds-one, takes-one-from, takes-one-off, run-on, run-from}
+use Rattle.scope.specs.Steps.{top, Registers, value, with-value, Values-within, Next, at-the-end, before-full, goes-to, adds-one, takes-one-from, takes-one-off, run-on, run-from}
 use Rattle.scope.specs.Nested.{Opened-by, a-CALL, a-REPEAT, Step, inc, dec, go-to, look, go-back, Place, ended, due, come-to, settle, nested-step, nested-next, nested-run}
 use Rattle.scope.specs.Flattening.{sum-of, start, flat-program}
 use Rattle.scope.specs.Addresses.{begins}
 use Rattle.scope.specs.Running.{flat-run}
 use Rattle.scope.specs.Quote.{line-steady, steady, line-quote, quote-by, quote}
-use Rattle.scope.specs.Enough.{raises, raised, steady-where-not-raised, Up-to-65535, By-itself, finished, full, Ends-within}
+use Rattle.scope.specs.Enough.{raises, raised, steady-where-not-raised, By-itself, finished, full, Ends-within}
 use Rattle.scope.specs.Moves.{Moves-to, INC-is-a-step, DEC-is-a-step, GO-TO-is-a-step, REPEAT-looks, CALL-enters, CALL-goes-on, REPEAT-goes-back, asked-is-at-its-end}
+use Rattle.scope.proofs.Registers.{taken-off, written-within, none-rises, others-stay}
 use Rattle.scope.proofs.Lowest.{quote-by-the-rule}
 use Rattle.scope.proofs.Moves.{settle-is-moved-to}
 use Rattle.scope.proofs.FlatLines.{drop-tail}
@@ -65,9 +66,9 @@ module _ (book : Book) where
 
 -- ---- moves that cost no step leave no more to do
 
-module _ (book : Book) (ok : Callees-below book) (rs : Registers) (low : Up-to-65535 rs) where
+module _ (book : Book) (ok : Callees-below book) (rs : Registers) (low : Values-within rs) where
   present-is-quoted : (l : Line) → present book rs l ≤ line-quote (quote book) l
-  unfolding present line-quote Up-to-65535
+  unfolding present line-quote Values-within
   present-is-quoted (INC r) = omega arith
   present-is-quoted (DEC r t) = omega arith
   present-is-quoted (GO-TO t) = omega arith
@@ -100,34 +101,6 @@ module _ (book : Book) (ok : Callees-below book) (rs : Registers) (low : Up-to-6
       (k i : ℕ) (around : List Opened-by)
       → left book rs (settle book k i around) ≤ quoted book (drop i (routine book k)) + left-around book rs around
   settle-leaves k i around = moves-leave (settle-is-moved-to book ok k i around)
-
--- ---- registers after a step
-
-taken-off : (rs : Registers) (r v : ℕ) → value rs r ≡ suc v → value (with-value rs r v) r ≡ v
-unfolding value with-value
-taken-off [] r v e = absurd (omega arith)
-taken-off (x ∷ rs) zero v e = refl
-taken-off (x ∷ rs) (suc r) v e = taken-off rs r v e
-
-none-is-above : (rs : Registers) (r v j n : ℕ) → v ≤ n → value rs j ≤ n → value (with-value rs r v) j ≤ n
-unfolding value with-value
-none-is-above [] r v j n a b = b
-none-is-above (x ∷ rs) zero v zero n a b = a
-none-is-above (x ∷ rs) zero v (suc j) n a b = b
-none-is-above (x ∷ rs) (suc r) v zero n a b = b
-none-is-above (x ∷ rs) (suc r) v (suc j) n a b = none-is-above rs r v j n a b
-
-none-rises : (rs : Registers) (r v j : ℕ) → v ≤ value rs r → value (with-value rs r v) j ≤ value rs j
-unfolding value with-value
-none-rises [] r v j a = omega arith
-none-rises (x ∷ rs) zero v zero a = a
-none-rises (x ∷ rs) zero v (suc j) a = omega arith
-none-rises (x ∷ rs) (suc r) v zero a = omega arith
-none-rises (x ∷ rs) (suc r) v (suc j) a = none-rises rs r v j a
-
-others-stay : (rs : Registers) (r v j : ℕ) → (r is j) ≡ false → value (with-value rs r v) j ≡ value rs j
-unfolding value with-value
-others-stay rs r v j e = getD-set-other rs r j v 0 (λ z. eqb-false r j e (sym z))
 
 -- ---- a register that is not raised does not rise around
 
@@ -172,7 +145,7 @@ module _ (book : Book) (ok : Callees-below book) (asked : ℕ) (steady-asked : s
     is-at-the-end : Falls before at-the-end
     is-full : {r : ℕ} → 0 < before → Falls before (before-full r)
     falls :
-        {place : Place} {rs : Registers} → Reached book asked place → Up-to-65535 rs → left book rs place < before
+        {place : Place} {rs : Registers} → Reached book asked place → Values-within rs → left book rs place < before
         → Falls before (goes-to place rs)
 
   settled : (k i : ℕ) (around : List Opened-by) → Is-open book asked k around → Reached book asked (settle book k i around)
@@ -184,7 +157,7 @@ module _ (book : Book) (ok : Callees-below book) (asked : ℕ) (steady-asked : s
   -- going on in the same routine, to a later line
   further-on :
       {l : Line} {rest : List Line} (rs ss : Registers) (k i t : ℕ) (around : List Opened-by) → drop i (routine book k) ≡ l ∷ rest
-      → Is-open book asked k around → i < t → 0 < present book rs l → None-risen k rs ss → Up-to-65535 ss
+      → Is-open book asked k around → i < t → 0 < present book rs l → None-risen k rs ss → Values-within ss
       → left book ss (settle book k t around) < from-here book rs (drop i (routine book k)) + left-around book rs around
   unfolding from-here
   further-on {l} {rest} rs ss k i t around e o lt some h low =
@@ -195,7 +168,7 @@ module _ (book : Book) (ok : Callees-below book) (asked : ℕ) (steady-asked : s
 
   jump-falls :
       {l : Line} {rest : List Line} (d : Step) (rs : Registers) (k i t : ℕ) (around : List Opened-by) → way-back book d ≡ 0
-      → drop i (routine book k) ≡ l ∷ rest → Is-open book asked k around → i < t → 0 < present book rs l → Up-to-65535 rs
+      → drop i (routine book k) ≡ l ∷ rest → Is-open book asked k around → i < t → 0 < present book rs l → Values-within rs
       → Falls (left book rs (due d k i around)) (goes-to (settle book k t around) rs)
   unfolding left
   jump-falls d rs k i t around no-way-back e o lt some low =
@@ -203,9 +176,9 @@ module _ (book : Book) (ok : Callees-below book) (asked : ℕ) (steady-asked : s
 
   add-one-falls :
       {rest : List Line} (rs : Registers) (k i r : ℕ) (around : List Opened-by) → drop i (routine book k) ≡ INC r ∷ rest
-      → Is-open book asked k around → Up-to-65535 rs
+      → Is-open book asked k around → Values-within rs
       → Falls (left book rs (due (inc r) k i around)) (adds-one r rs (settle book k (suc i) around))
-  unfolding adds-one if left way-back Up-to-65535 raises present from-here
+  unfolding adds-one if left way-back Values-within raises present from-here
   add-one-falls {rest} rs k i r around e o low = by-test (value rs r is top) refl
     where
       ss : Registers
@@ -217,18 +190,18 @@ module _ (book : Book) (ok : Callees-below book) (asked : ℕ) (steady-asked : s
       by-test true t = is-full (rw e (omega arith))
       by-test false t =
           let below : suc (value rs r) ≤ top = omega (arith, low r, eqb-false (value rs r) top t) in
-          let low-still : Up-to-65535 ss = λ j. none-is-above rs r (suc (value rs r)) j top below (low j) in
+          let low-still : Values-within ss = written-within rs r (suc (value rs r)) below low in
           let none-risen : None-risen k rs ss = λ j n. le-of-eq (others-stay rs r (suc (value rs r)) j (not-raised-here book ok j k i n e)) in
           falls (settled k (suc i) around o) low-still
           (omega (arith, further-on rs ss k i (suc i) around e o (omega arith) (omega arith) none-risen low-still))
 
-  stays-low : (rs : Registers) (r v : ℕ) → value rs r ≡ suc v → Up-to-65535 rs → Up-to-65535 (with-value rs r v)
-  unfolding Up-to-65535
-  stays-low rs r v e low j = none-is-above rs r v j top (omega (arith, low r)) (low j)
+  stays-low : (rs : Registers) (r v : ℕ) → value rs r ≡ suc v → Values-within rs → Values-within (with-value rs r v)
+  unfolding Values-within
+  stays-low rs r v e low = written-within rs r v (omega (arith, low r)) low
 
   dec-falls :
       {rest : List Line} (rs : Registers) (k i r t : ℕ) (around : List Opened-by) → drop i (routine book k) ≡ DEC r t ∷ rest
-      → Is-open book asked k around → Up-to-65535 rs
+      → Is-open book asked k around → Values-within rs
       → Falls (left book rs (due (dec r t) k i around)) (takes-one-off r rs (settle book k (suc i) around) (settle book k t around))
   unfolding takes-one-off takes-one-from left way-back present line-steady
   dec-falls {rest} rs k i r t around e o low = by-value (value rs r) refl
@@ -247,7 +220,7 @@ module _ (book : Book) (ok : Callees-below book) (asked : ℕ) (steady-asked : s
 
   look-falls :
       {rest : List Line} (rs : Registers) (k i r c : ℕ) (around : List Opened-by) → drop i (routine book k) ≡ REPEAT r c ∷ rest
-      → Is-open book asked k around → Up-to-65535 rs
+      → Is-open book asked k around → Values-within rs
       → Falls (left book rs (due (look r c) k i around)) (takes-one-off r rs (settle book c 0 (a-REPEAT k i ∷ around)) (settle book k (suc i) around))
   unfolding takes-one-off takes-one-from left way-back present left-around from-here quote-by
   look-falls {rest} rs k i r c around e o low = by-value (value rs r) refl
@@ -270,7 +243,7 @@ module _ (book : Book) (ok : Callees-below book) (asked : ℕ) (steady-asked : s
 
   look-again-falls :
       {rest : List Line} (rs : Registers) (k i r c : ℕ) (around : List Opened-by) → drop i (routine book k) ≡ REPEAT r c ∷ rest
-      → Is-open book asked k around → Up-to-65535 rs
+      → Is-open book asked k around → Values-within rs
       → Falls (left book rs (due (go-back c) k i around)) (goes-to (settle book k i around) rs)
   unfolding left way-back settle come-to
   look-again-falls rs k i r c around e o low =
@@ -278,7 +251,7 @@ module _ (book : Book) (ok : Callees-below book) (asked : ℕ) (steady-asked : s
       falls (settled k i around o) low (rw looks (omega arith))
 
   step-falls :
-      {place : Place} (rs : Registers) → Reached book asked place → Up-to-65535 rs → Falls (left book rs place) (nested-next book place rs)
+      {place : Place} (rs : Registers) → Reached book asked place → Values-within rs → Falls (left book rs place) (nested-next book place rs)
   unfolding nested-next nested-step present way-back line-steady
   step-falls rs the-end low = is-at-the-end
   step-falls {place = due d k i around} rs (a-step e (does-inc {r = r}) o) low = add-one-falls rs k i r around e o low
@@ -304,7 +277,7 @@ module _ (book : Book) (ok : Callees-below book) (asked : ℕ) (steady-asked : s
       record { by-itself = on .by-itself; within = omega (arith, on .within, lt) }
 
   nested-run-stops :
-      (budget : ℕ) (rs : Registers) → Up-to-65535 rs → quote book asked ≤ budget
+      (budget : ℕ) (rs : Registers) → Values-within rs → quote book asked ≤ budget
       → Ends-within (quote book asked) (nested-run book asked budget rs)
   unfolding nested-run run-from quote-by left-around
   nested-run-stops budget rs low h =
@@ -324,7 +297,7 @@ pub record Quote-is-enough (book : Book) (k budget : ℕ) (rs : Registers) : Typ
 
 -- for every routine whose REPEATs' registers are not raised by INC in or under the repeated routine
 pub quote-enough-where-not-raised :
-    (book : Book) → Callees-below book → (k budget : ℕ) (rs : Registers) → steady-where-not-raised book k ≡ true → Up-to-65535 rs
+    (book : Book) → Callees-below book → (k budget : ℕ) (rs : Registers) → steady-where-not-raised book k ≡ true → Values-within rs
     → quote book k ≤ budget → Quote-is-enough book k budget rs
 quote-enough-where-not-raised book ok k budget rs s low h =
     let n = nested-run-stops book ok k s budget rs low h in
@@ -336,7 +309,7 @@ quote-enough-where-not-raised book ok k budget rs s low h =
 
 -- Demand 3: a steady routine, run from its first line with a budget of at least the quote, never ends OUT OF STEPS.
 pub quote-enough :
-    (book : Book) → Callees-below book → (k budget : ℕ) (rs : Registers) → steady book k ≡ true → Up-to-65535 rs → quote book k ≤ budget
+    (book : Book) → Callees-below book → (k budget : ℕ) (rs : Registers) → steady book k ≡ true → Values-within rs → quote book k ≤ budget
     → Quote-is-enough book k budget rs
 quote-enough book ok k budget rs s =
     quote-enough-where-not-raised book ok k budget rs (steady-is-steady-where-not-raised book k s)

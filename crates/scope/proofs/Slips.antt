@@ -4,10 +4,9 @@ use Prim.Native.Nat.{ℕ}
 use mathlib.Core.Path.{_≡_, refl}
 use mathlib.Core.List.{List, [], _∷_}
 use Rattle.scope.specs.Ram as ram
-use Rattle.scope.specs.Ram.{Program}
-use Rattle.scope.specs.Book.{Line, INC, DEC, GO-TO, CALL, REPEAT, Book}
-use Rattle.scope.specs.Steps.{Registers, FINISHED, OUT-OF-STEPS, FULL, End, end}
-use Rattle.scope.specs.Nested.{Place, ended, nested-run}
+use Rattle.scope.specs.Book.{Line, INC, GO-TO, CALL, REPEAT}
+use Rattle.scope.specs.Steps.{FINISHED, OUT-OF-STEPS, end}
+use Rattle.scope.specs.Nested.{ended, nested-run}
 use Rattle.scope.specs.Flattening.{flat-length, flat-program}
 use Rattle.scope.specs.Running.{flat-run}
 use Rattle.scope.proofs.Computed.{computed}

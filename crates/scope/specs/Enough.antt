@@ -4,7 +4,7 @@ use Prim.Native.Nat.{ℕ, _≤_}
 use mathlib.Core.Bool.{Bool, true, false}
 use Rattle.scope.specs.Words.{_is_}
 use Rattle.scope.specs.Book.{Line, INC, DEC, GO-TO, CALL, REPEAT, Book, from-the-lowest-up}
-use Rattle.scope.specs.Steps.{top, Registers, value, Outcome, FINISHED, FULL, End}
+use Rattle.scope.specs.Steps.{Outcome, FINISHED, FULL, End}
 use Rattle.scope.specs.Quote.{in-or-under, steady-by}
 
 -- INC raises its register, and no other line does.
@@ -23,10 +23,6 @@ module _ (book : Book) where
   -- steady, but that a REPEAT line needs only that its register is not raised in or under the repeated routine
   unfoldable pub steady-where-not-raised : ℕ → Bool
   steady-where-not-raised = from-the-lowest-up true (steady-by book raised)
-
--- .. registers .. of 0 to 65,535.
-unfoldable pub Up-to-65535 : Registers → Type 0
-Up-to-65535 rs = (j : ℕ) → value rs j ≤ top
 
 -- A run ended FINISHED or FULL: by itself, and not for want of steps.
 pub data By-itself : Outcome → Type 0 where

@@ -35,3 +35,5 @@ pub mod Samples
 pub mod Addresses
 pub mod Moves
 pub mod Enough
+pub mod Transitions
+pub mod Depth
