@@ -27,3 +27,7 @@ pub mod Simulation
 pub mod Steady
 pub mod QuoteEnough
 pub mod Depth
+-- what flattening writes is a book again
+pub mod OneRoutine
+pub mod WrittenBook
+pub mod FlatBook

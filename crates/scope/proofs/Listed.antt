@@ -2,7 +2,8 @@
 -- Each by the number of members; places are given as sums, so that nothing has to compute. Assumes nothing.
 use Prim.Native.Nat.{ℕ, zero, suc, _+_, _<_}
 use native.Mathlib.Omega.{arith}
-use mathlib.Core.Path.{_≡_, refl, _∙_, ap}
+use mathlib.Core.Path.{_≡_, refl, sym, _∙_, ap}
+use mathlib.Core.List.{List, [], _∷_, map}
 use lib.ListN.{length, getD, drop}
 use Rattle.scope.specs.Words.{listed}
 
@@ -27,7 +28,32 @@ module _ {A : Type 0} where
   listed-from f i zero (suc j) k m e h = absurd (omega arith)
   listed-from f i (suc n) (suc j) k m e h = listed-from f (suc i) n j k m (omega arith) (omega arith)
 
-  pub listed-alike : (f g : ℕ → A) (i n : ℕ) → ((k : ℕ) → k < i + n → f k ≡ g k) → listed f i n ≡ listed g i n
+  pub listed-member : (f : ℕ → A) (i n j k : ℕ) {x : A} {rest : List A} → drop j (listed f i n) ≡ x ∷ rest → k ≡ i + j → (j < n) × (x ≡ f k)
   unfolding listed
-  listed-alike f g i zero h = refl
-  listed-alike f g i (suc n) h = rw (h i (omega arith), listed-alike f g (suc i) n (λ k l. h k (omega arith)))
+  listed-member f i zero zero k e h =
+      let y : _≡_ {A = ℕ} 0 1 = cc in
+      absurd (omega arith)
+  listed-member f i zero (suc j) k e h =
+      let y : _≡_ {A = ℕ} 0 1 = cc in
+      absurd (omega arith)
+  listed-member f i (suc n) zero k {x} e h =
+      let z : f i ≡ x = cc in
+      (omega arith, sym z ∙ ap f (omega arith))
+  listed-member f i (suc n) (suc j) k e h =
+      let m = listed-member f (suc i) n j k e (omega arith) in
+      (omega (arith, m .0), m .1)
+
+  -- a list whose members follow the rule is that list
+  pub listed-is : (f : ℕ → A) (xs : List A) (i n : ℕ) → length xs ≡ n → ((j k : ℕ) (x : A) (rest : List A) → drop j xs ≡ x ∷ rest → k ≡ i + j → f k ≡ x) → listed f i n ≡ xs
+  unfolding listed
+  listed-is f [] i zero e h = refl
+  listed-is f [] i (suc n) e h = absurd (omega arith)
+  listed-is f (x ∷ xs) i zero e h = absurd (omega arith)
+  listed-is f (x ∷ xs) i (suc n) e h =
+      rw (h 0 i x xs refl (omega arith), listed-is f xs (suc i) n (omega arith) (λ j k y rest d g. h (suc j) k y rest d (omega arith)))
+
+-- a list by the rule of another's members
+pub listed-map : {A B : Type 0} (g : B → A) (f : ℕ → A) (h : ℕ → B) (i n : ℕ) → ((k : ℕ) → k < i + n → f k ≡ g (h k)) → listed f i n ≡ map g (listed h i n)
+unfolding listed
+listed-map g f h i zero same = refl
+listed-map g f h i (suc n) same = rw (same i (omega arith), listed-map g f h (suc i) n (λ k l. same k (omega arith)))

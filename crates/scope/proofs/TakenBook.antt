@@ -5,12 +5,12 @@ use native.Mathlib.Omega.{arith}
 use mathlib.Core.Path.{_≡_, refl, sym, _∙_, ap}
 use mathlib.Core.Logic.{inl, inr, ⊎-elim}
 use mathlib.Core.List.{List, [], _∷_}
-use lib.ListN.{length, drop, drop-of-length-le, List·getD-eq-default}
+use lib.ListN.{length, drop, List·getD-eq-default}
 use Rattle.scope.specs.Words.{listed}
-use Rattle.scope.specs.Book.{most-routines, most-lines, last-register, routines, lines, stated-length, length-due, first-line, count, first-line-due, Line-fields, Line, INC, DEC, GO-TO, CALL, REPEAT, INC-kind, DEC-kind, GO-TO-kind, CALL-kind, REPEAT-kind, line-of, fields-in, Taken, routine, routine-of, book-of, Line-uses, by-CALL, by-REPEAT, Callees-below}
-use Rattle.scope.specs.Given.{Wrong-counts, Wrong-offsets, Wrong-length, Wrong-entry, Wrong-end, Wrong-kind, Zero-stands, Wrong-register, Has-target, Wrong-target, Has-callee, Wrong-callee, Good-line, Good-in}
+use Rattle.scope.specs.Book.{the-format, header-bytes, format, routine-table, line-table, line-table-due, most-routines, most-lines, last-register, routines, lines, stated-length, length-due, first-line, count, first-line-due, Line-fields, Line, INC, DEC, GO-TO, CALL, REPEAT, INC-kind, DEC-kind, GO-TO-kind, CALL-kind, REPEAT-kind, line-of, fields-in, Taken, routine, routine-of, book-of, Line-uses, by-CALL, by-REPEAT, Callees-below}
+use Rattle.scope.specs.Given.{Wrong-format, Wrong-counts, Wrong-offsets, Wrong-length, Wrong-entry, Wrong-end, Wrong-kind, Zero-stands, Wrong-register, Has-target, Wrong-target, Has-callee, Wrong-callee, Good-line, Good-in}
 use Rattle.scope.proofs.Verdicts.{one-holds, else-holds, above-tells, below-tells, not-below-tells, is-tells, is-not-tells, or-tells, either-way}
-use Rattle.scope.proofs.Listed.{length-listed, listed-at, listed-from}
+use Rattle.scope.proofs.Listed.{length-listed, listed-at, listed-from, listed-member}
 use Rattle.scope.proofs.GivenExactlyWhen.{routines-in-order, taken-exactly-when}
 
 -- ---- the bytes
@@ -31,9 +31,13 @@ lines-below b zero = 0
 lines-below b (suc r) = lines-below b r + count b r
 
 pub record Taken-book (b : List ℕ) : Type 0 where
+  pub format-is-1 : format b ≡ the-format
   pub some-routine : 1 ≤ routines b
   pub routines-to-32 : routines b ≤ most-routines
   pub lines-to-4096 : lines b ≤ most-lines
+  pub routine-table-as-due : routine-table b ≡ header-bytes
+  pub line-table-as-due : line-table b ≡ line-table-due (routines b)
+  pub stated-as-due : stated-length b ≡ length-due (routines b) (lines b)
   pub length-as-due : length b ≡ length-due (routines b) (lines b)
   pub starts-where-due : (r : ℕ) → r < routines b → first-line b r ≡ first-line-due b r
   pub last-ends-at-L : first-line-due b (routines b) ≡ lines b
@@ -73,19 +77,23 @@ all-end-within b order (suc n) r e h l =
     omega (arith, ap (λ i. first-line b i + count b i) same)) (one-holds (below-tells r n))
 
 pub taken-book : (b : List ℕ) → Taken b → Taken-book b
-unfolding Wrong-counts Wrong-offsets Wrong-length Wrong-entry Wrong-end Good-in
+unfolding Wrong-format Wrong-counts Wrong-offsets Wrong-length Wrong-entry Wrong-end Good-in
 taken-book b t =
     let g = taken-exactly-when b .0 t in
     let c = else-holds (or-tells (is-tells (routines b) 0) (or-tells (above-tells (routines b) most-routines) (above-tells (lines b) most-lines))) (g .counts-right) in
-    let o = else-holds (is-not-tells (stated-length b) (length-due (routines b) (lines b))) (λ w. g .offsets-right (inr (inr w))) in
+    let o = else-holds (or-tells (is-not-tells (routine-table b) header-bytes) (or-tells (is-not-tells (line-table b) (line-table-due (routines b))) (is-not-tells (stated-length b) (length-due (routines b) (lines b))))) (g .offsets-right) in
     let s : (r : ℕ) → r < routines b → first-line b r ≡ first-line-due b r = λ r h. else-holds (is-not-tells (first-line b r) (first-line-due b r)) (g .entries-right r h) in
     let e = else-holds (is-not-tells (first-line-due b (routines b)) (lines b)) (g .end-right) in
     let order = routines-in-order b (g .entries-right) in
     record {
+      format-is-1 = else-holds (is-not-tells (format b) the-format) (g .format-right);
       some-routine = omega (arith, c .0);
       routines-to-32 = c .1 .0;
       lines-to-4096 = c .1 .1;
-      length-as-due = else-holds (is-not-tells (length b) (stated-length b)) (g .length-right) ∙ o;
+      routine-table-as-due = o .0;
+      line-table-as-due = o .1 .0;
+      stated-as-due = o .1 .1;
+      length-as-due = else-holds (is-not-tells (length b) (stated-length b)) (g .length-right) ∙ o .1 .1;
       starts-where-due = s;
       last-ends-at-L = e;
       in-order = order;
@@ -123,21 +131,14 @@ pub record Stands-in (b : List ℕ) (k j : ℕ) (l : Line) : Type 0 where
   pub in-the-routine : j < count b k
   pub the-line : l ≡ line-of (fields-in b k j)
 
-nothing-stands : {A : Type 0} {l : Line} {ls : List Line} → [] ≡ l ∷ ls → A
-nothing-stands e =
-    let y : _≡_ {A = ℕ} 0 1 = cc in
-    absurd (omega arith)
-
 pub what-stands : (b : List ℕ) (k j : ℕ) {l : Line} {ls : List Line} → drop j (routine (book-of b) k) ≡ l ∷ ls → Stands-in b k j l
+unfolding routine-of listed
 what-stands b k j {l} e =
     ⊎-elim (λ (h : k < routines b).
-    let f = rw (routine-in-the-book b k h) at e in
-    ⊎-elim (λ (g : j < count b k).
-    let s = stands-in-its-routine b k j g in
-    let z : l ≡ line-of (fields-in b k j) = cc in
-    record { in-the-book = h; in-the-routine = g; the-line = z })
-    (λ (g : count b k ≤ j). nothing-stands (sym (drop-of-length-le (routine-of b k) {i = j} (rw (length-routine-of b k) g)) ∙ f)) (one-holds (below-tells j (count b k))))
-    (λ (h : routines b ≤ k). nothing-stands (sym (drop-of-length-le [] {i = j} (omega arith)) ∙ (rw (no-routine-from-R-on b k h) at e))) (one-holds (below-tells k (routines b)))
+    let m = listed-member (λ i. line-of (fields-in b k i)) 0 (count b k) j j (rw (routine-in-the-book b k h) at e) (omega arith) in
+    record { in-the-book = h; in-the-routine = m .0; the-line = m .1 }) (λ (h : routines b ≤ k).
+    let m = listed-member (λ i. l) 0 0 j j (rw (no-routine-from-R-on b k h) at e) (omega arith) in
+    absurd (omega (arith, m .0))) (one-holds (below-tells k (routines b)))
 
 -- a line of routine k, which has n lines: its register is a register, its target a line or the end, its callee below
 pub data Line-fits (k n : ℕ) : Line → Type 0 where
@@ -147,7 +148,7 @@ pub data Line-fits (k n : ℕ) : Line → Type 0 where
   CALL-fits : {c : ℕ} → c < k → Line-fits k n (CALL c)
   REPEAT-fits : {r c : ℕ} → r ≤ last-register → c < k → Line-fits k n (REPEAT r c)
 
-taken-line-fits : (f : Line-fields) (k n : ℕ) → Taken-line f k n → Line-fits k n (line-of f)
+pub taken-line-fits : (f : Line-fields) (k n : ℕ) → Taken-line f k n → Line-fits k n (line-of f)
 unfolding line-of Has-target Has-callee
 taken-line-fits f k n t =
     either-way (Line-fits k n) (is-tells (f .kind) INC-kind) (λ i. INC-fits (t .register-to-31)) λ n1.

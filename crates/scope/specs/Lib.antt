@@ -33,6 +33,7 @@ pub mod Cases
 pub mod Samples
 -- words that the laws of proofs/ need and the paper's definitions do not
 pub mod Addresses
+pub mod FlatBook
 pub mod Moves
 pub mod Enough
 pub mod Transitions

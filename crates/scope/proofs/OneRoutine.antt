@@ -1,0 +1,143 @@
+-- A taken book with one routine says the same as a program and as a book: each line is INC, DEC or GO TO, and flattening changes nothing.
+-- Its routine has none below it to use; each line has length 1, so a target starts at its own number. Assumes nothing.
+use Prim.Native.Nat.{ℕ, zero, suc, _+_, _<_, _≤_}
+use native.Mathlib.Omega.{arith}
+use mathlib.Core.Path.{_≡_, refl, sym, _∙_, ap}
+use mathlib.Core.Logic.{inl, inr}
+use mathlib.Core.List.{List, [], _∷_, map}
+use lib.ListN.{length, take}
+use Rattle.scope.specs.Words.{if, listed}
+use Rattle.scope.specs.Ram as ram
+use Rattle.scope.specs.Ram.{Instruction, Program, Has, has, Target-within, Targets-within}
+use Rattle.scope.specs.Book.{INC-kind, DEC-kind, GO-TO-kind, routines, lines, first-line, count, first-line-due, Line-fields, Line, INC, DEC, GO-TO, CALL, REPEAT, fields-of, line-of, fields-at, line-number, fields-in, Taken, Book, routine, routine-of, book-of, said-below, from-the-lowest-up}
+use Rattle.scope.specs.Flattening.{line-length, sum-of, flat-length, start, copy-line, copy-lines, copy-by, copy, flat-program, as-line}
+use Rattle.scope.specs.Running.{instruction-of, program-of}
+use Rattle.scope.specs.Given.{Zero-stands, Has-callee}
+use Rattle.scope.specs.FlatBook.{Register-within, Registers-within, Fits-a-book}
+use Rattle.scope.proofs.Verdicts.{is-tells, either-way}
+use Rattle.scope.proofs.Listed.{length-listed, listed-member, listed-map}
+use Rattle.scope.proofs.TakenBook.{Taken-line, taken-book, Line-fits, INC-fits, DEC-fits, GO-TO-fits, taken-line-fits}
+
+-- ---- one line
+
+pub same-fields : {f g : Line-fields} → f .kind ≡ g .kind → f .register ≡ g .register → f .operand ≡ g .operand → f ≡ g
+same-fields k r o = λ i. record { kind = k i; register = r i; operand = o i }
+
+-- What is written of a line is read as that line.
+line-again : (l : Line) → line-of (fields-of l) ≡ l
+unfolding line-of fields-of if
+line-again (INC r) = refl
+line-again (DEC r t) = refl
+line-again (GO-TO t) = refl
+line-again (CALL c) = refl
+line-again (REPEAT r c) = refl
+
+-- In routine 0 a line that is neither INC nor DEC is GO TO: CALL and REPEAT would name a routine below it.
+only-GO-TO-is-left : (f : Line-fields) (n : ℕ) → Taken-line f 0 n → ¬ (f .kind ≡ INC-kind) → ¬ (f .kind ≡ DEC-kind) → f .kind ≡ GO-TO-kind
+unfolding Has-callee
+only-GO-TO-is-left f n t not-1 not-2 =
+    let not-4 : ¬ (f .kind ≡ 4) = λ e. omega (arith, t .callee-below (inl e)) in
+    let not-5 : ¬ (f .kind ≡ 5) = λ e. omega (arith, t .callee-below (inr e)) in
+    omega (arith, t .kind-from-1, t .kind-to-5)
+
+-- What is read of a line of routine 0 as an instruction is written as that line.
+pub fields-again : (f : Line-fields) (n : ℕ) → Taken-line f 0 n → fields-of (as-line (instruction-of f)) ≡ f
+unfolding instruction-of fields-of as-line Zero-stands
+fields-again f n t =
+    either-way (λ x. fields-of (as-line x) ≡ f) (is-tells (f .kind) INC-kind) (λ k. same-fields (sym k) refl (sym (t .INC-operand-0 k))) λ not-1.
+    either-way (λ x. fields-of (as-line x) ≡ f) (is-tells (f .kind) DEC-kind) (λ k. same-fields (sym k) refl refl) λ not-2.
+    let k = only-GO-TO-is-left f n t not-1 not-2 in
+    same-fields (sym k) (sym (t .zero-where-0-stands (inl k))) refl
+
+line-as-instruction : (f : Line-fields) (n : ℕ) → Taken-line f 0 n → line-of f ≡ as-line (instruction-of f)
+line-as-instruction f n t = ap line-of (sym (fields-again f n t)) ∙ line-again (as-line (instruction-of f))
+
+register-fits : (x : Instruction) (n : ℕ) → Line-fits 0 n (as-line x) → Register-within x
+unfolding as-line Register-within
+register-fits (ram.INC j) n (INC-fits r) = r
+register-fits (ram.DEC j l) n (DEC-fits r t) = r
+register-fits (ram.GO-TO l) n (GO-TO-fits t) = tt
+
+target-fits : (x : Instruction) (n : ℕ) → Line-fits 0 n (as-line x) → Target-within n x
+unfolding as-line Target-within
+target-fits (ram.INC j) n (INC-fits r) = tt
+target-fits (ram.DEC j l) n (DEC-fits r t) = t
+target-fits (ram.GO-TO l) n (GO-TO-fits t) = t
+
+-- ---- the whole book
+
+module _ (b : List ℕ) (t : Taken b) (one : routines b ≡ 1) where
+  pub starts-at-0 : first-line b 0 ≡ 0
+  unfolding first-line-due
+  starts-at-0 = taken-book b t .starts-where-due 0 (omega arith)
+
+  pub counts-all : count b 0 ≡ lines b
+  unfolding first-line-due
+  counts-all = omega (arith, starts-at-0, (rw one at (taken-book b t .last-ends-at-L)))
+
+  pub line-of-the-routine : (i : ℕ) → i < lines b → Taken-line (fields-at b i) 0 (lines b)
+  unfolding fields-in line-number
+  line-of-the-routine i h =
+      let same : first-line b 0 + i ≡ i = omega (arith, starts-at-0) in
+      rw (same, counts-all) at (taken-book b t .lines-right 0 i (omega arith) (omega (arith, counts-all)))
+
+  pub one-routine-book : book-of b ≡ map as-line (program-of b) ∷ []
+  unfolding book-of routine-of program-of listed fields-in line-number
+  one-routine-book =
+      rw (one, counts-all) (ap (λ ls. ls ∷ []) (listed-map as-line _ _ 0 (lines b) (λ k h.
+      let same : first-line b 0 + k ≡ k = omega (arith, starts-at-0) in
+      rw same (line-as-instruction (fields-at b k) (lines b) (line-of-the-routine k (omega arith))))))
+
+  pub length-program-of : length (program-of b) ≡ lines b
+  unfolding program-of
+  length-program-of = length-listed _ 0 (lines b)
+
+  instruction-stands : (p : ℕ) (x : Instruction) → Has (program-of b) p x → Line-fits 0 (lines b) (as-line x)
+  unfolding program-of
+  instruction-stands p x (has e) =
+      let m = listed-member (λ i. instruction-of (fields-at b i)) 0 (lines b) p p e (omega arith) in
+      let l = line-of-the-routine p (m .0) in
+      rw (m .1, sym (line-as-instruction (fields-at b p) (lines b) l)) (taken-line-fits (fields-at b p) 0 (lines b) l)
+
+  pub its-program-fits : Fits-a-book (program-of b)
+  unfolding Targets-within Registers-within
+  its-program-fits =
+      record {
+        targets-within = λ p x h. target-fits x (length (program-of b)) (rw length-program-of (instruction-stands p x h));
+        registers-within = λ p x h. register-fits x (lines b) (instruction-stands p x h);
+        not-too-long = rw length-program-of (taken-book b t .lines-to-4096);
+      }
+
+-- ---- flattening it changes nothing
+
+lines-have-length-1 : (length-of : ℕ → ℕ) (P : Program) (i : ℕ) → i ≤ length P → sum-of (line-length length-of) (take i (map as-line P)) ≡ i
+unfolding sum-of line-length as-line
+lines-have-length-1 length-of P zero h = refl
+lines-have-length-1 length-of [] (suc i) h = absurd (omega arith)
+lines-have-length-1 length-of (ram.INC r ∷ P) (suc i) h = omega (arith, lines-have-length-1 length-of P i (omega arith))
+lines-have-length-1 length-of (ram.DEC r t ∷ P) (suc i) h = omega (arith, lines-have-length-1 length-of P i (omega arith))
+lines-have-length-1 length-of (ram.GO-TO t ∷ P) (suc i) h = omega (arith, lines-have-length-1 length-of P i (omega arith))
+
+module _ (book : Book) (copy-of : ℕ → ℕ → Program) (n : ℕ) (starts : (i : ℕ) → i ≤ n → start book 0 i ≡ i) where
+  line-copied : (p : ℕ) (x : Instruction) → Target-within n x → copy-line book copy-of 0 0 p (as-line x) ≡ x ∷ []
+  unfolding copy-line as-line Target-within
+  line-copied p (ram.INC r) h = refl
+  line-copied p (ram.DEC r t) h = ap (λ l. ram.DEC r l ∷ []) (omega (arith, starts t h))
+  line-copied p (ram.GO-TO t) h = ap (λ l. ram.GO-TO l ∷ []) (omega (arith, starts t h))
+
+  lines-copied : (p : ℕ) (P : Program) → ((i : ℕ) (x : Instruction) → Has P i x → Target-within n x) → copy-lines book copy-of 0 0 p (map as-line P) ≡ P
+  unfolding copy-lines
+  lines-copied p [] h = refl
+  lines-copied p (x ∷ P) h =
+      rw (line-copied p x (h 0 x (has refl)), lines-copied (p + line-length (flat-length book) (as-line x)) P (λ i y s. h (suc i) y (later s)))
+    where
+      later : {i : ℕ} {y : Instruction} → Has P i y → Has (x ∷ P) (suc i) y
+      later (has e) = has e
+
+flat-program-of-a-program : (P : Program) → Targets-within P → flat-program (map as-line P ∷ []) 0 ≡ P
+unfolding flat-program copy from-the-lowest-up said-below copy-by routine start Targets-within
+flat-program-of-a-program P h = lines-copied (map as-line P ∷ []) _ (length P) (lines-have-length-1 (flat-length (map as-line P ∷ [])) P) 0 P h
+
+-- Flattening routine 0 of a book with one routine gives the program that it says.
+pub flattening-changes-nothing : (b : List ℕ) → Taken b → routines b ≡ 1 → flat-program (book-of b) 0 ≡ program-of b
+flattening-changes-nothing b t one = rw (one-routine-book b t one) (flat-program-of-a-program (program-of b) (its-program-fits b t one .targets-within))
