@@ -1,12 +1,12 @@
 -- Reading, flattening, quoting, running, the bench step and the shop's program are refused exactly when document 01 says so.
 -- The book's own refusals come first; then each call's tests are taken apart in their order. Assumes nothing.
-use Prim.Native.Nat.{ℕ}
-use mathlib.Core.Bool.{Bool, true}
+use Prim.Native.Nat.{ℕ, _<_, _≤_}
+use mathlib.Core.Bool.{Bool, true, false, not}
 use mathlib.Core.Path.{_≡_, _∙_}
 use mathlib.Core.Logic.{_↔_, _≢_, ⊎-elim}
 use mathlib.Core.List.{List}
 use lib.ListN.{length}
-use Rattle.scope.specs.Words.{_is-not_}
+use Rattle.scope.specs.Words.{_is-not_, _above_, _below_, _not-below_}
 use Rattle.scope.specs.Refusals.{Refusal, Verdict, pass, refuse, _and-then_}
 use Rattle.scope.specs.Book.{routines, lines, count, book-verdict, Taken, book-of, read-verdict}
 use Rattle.scope.specs.Steps.{register-count, Registers}
@@ -21,141 +21,208 @@ use Rattle.scope.proofs.Verdicts.{Tells, no-fault, itself-tells, above-
 use Rattle.scope.proofs.GivenExactlyWhen.{given-exactly-when}
 
 -- A refusal of a call is the book's, or the book is taken and the refusal is one of the call's own tests.
-after-the-book : {b : List ℕ} {v : Verdict} {x : Refusal} (C : Refusal → Type 0) → (Given b x → C x) → (Taken b → v ≡ refuse x → C x) → book-verdict b and-then v ≡ refuse x → C x
-after-the-book {b} {x} C f g e = ⊎-elim (λ r. f (given-exactly-when b x .0 r)) (λ r. g (r .0) (r .1)) (which-then-refuses (book-verdict b) e)
+after-the-book : {b : List ℕ} {v : Verdict} {x : Refusal} (C : Refusal → Type 0) → (Given b x → C x) → (Taken b → v ≡ refuse x → C x)
+    → book-verdict b and-then v ≡ refuse x → C x
+after-the-book {b} {x} C f g e =
+    ⊎-elim (λ r. f (given-exactly-when b x .0 r)) (λ r. g (r .0) (r .1)) (which-then-refuses (book-verdict b) e)
 
 the-book-refuses : {b : List ℕ} {x : Refusal} (v : Verdict) → Given b x → book-verdict b and-then v ≡ refuse x
 the-book-refuses {b} {x} v g = then-refuses v (given-exactly-when b x .1 g)
 
+-- 12 NO ROUTINE: asked routine not below R
+no-routine-tells : (b : List ℕ) (k : ℕ) → Tells (k not-below routines b) (routines b ≤ k) (k < routines b)
+no-routine-tells b k = not-below-tells k (routines b)
+
 -- ---- reading
+
+-- 17 LINE: line to read not below its routine's count
+no-line-tells : (b : List ℕ) (r j : ℕ) → Tells (j not-below count b r) (count b r ≤ j) (j < count b r)
+no-line-tells b r j = not-below-tells j (count b r)
 
 reading-gives : (b : List ℕ) (r j : ℕ) (x : Refusal) → read-verdict b r j ≡ refuse x → Given-reading b r j x
 unfolding read-verdict
 reading-gives b r j x =
-    after-the-book (Given-reading b r j) reading-the-book λ t. which-refuses (Given-reading b r j) (not-below-tells r (routines b)) (reading-NO-ROUTINE t) λ h.
-    which-refuses (Given-reading b r j) (not-below-tells j (count b r)) (reading-LINE t h) λ l e. absurd (pass-is-no-refusal e)
+    let C = Given-reading b r j in
+    after-the-book C reading-the-book λ t.
+    which-refuses C (no-routine-tells b r) (reading-NO-ROUTINE t) λ h.
+    which-refuses C (no-line-tells b r j) (reading-LINE t h) λ l e. absurd (pass-is-no-refusal e)
 
 reading-refuses : (b : List ℕ) (r j : ℕ) (x : Refusal) → Given-reading b r j x → read-verdict b r j ≡ refuse x
 unfolding read-verdict
 reading-refuses b r j x (reading-the-book g) = the-book-refuses _ g
-reading-refuses b r j x (reading-NO-ROUTINE t h) = then-goes-on _ t ∙ refuses _ _ (not-below-tells r (routines b)) h
-reading-refuses b r j x (reading-LINE t h l) = then-goes-on _ t ∙ goes-on _ _ (not-below-tells r (routines b)) h ∙ refuses _ _ (not-below-tells j (count b r)) l
+reading-refuses b r j x (reading-NO-ROUTINE t h) = then-goes-on _ t ∙ refuses _ _ (no-routine-tells b r) h
+reading-refuses b r j x (reading-LINE t h l) = then-goes-on _ t ∙ goes-on _ _ (no-routine-tells b r) h ∙ refuses _ _ (no-line-tells b r j) l
 
 pub reading-given-exactly-when : (b : List ℕ) (r j : ℕ) (x : Refusal) → (read-verdict b r j ≡ refuse x) ↔ Given-reading b r j x
 reading-given-exactly-when b r j x = (reading-gives b r j x, reading-refuses b r j x)
 
 -- ---- what flattening and the quote share
 
+-- 11 DEPTH: more than 32 routines open inside one another
+depth-tells : (b : List ℕ) (k : ℕ) → Tells (depth (book-of b) k above most-open) (most-open < depth (book-of b) k) (depth (book-of b) k ≤ most-open)
+depth-tells b k = above-tells (depth (book-of b) k) most-open
+
+-- 13 TOO LONG: flat length above 4,096
+too-long-tells : (b : List ℕ) (k : ℕ)
+    → Tells (flat-length (book-of b) k above most-flat-lines) (most-flat-lines < flat-length (book-of b) k) (flat-length (book-of b) k ≤ most-flat-lines)
+too-long-tells b k = above-tells (flat-length (book-of b) k) most-flat-lines
+
 to-flatten-gives : (b : List ℕ) (k : ℕ) (x : Refusal) → flattens-verdict b k ≡ refuse x → Given-to-flatten b k x
 unfolding flattens-verdict
 to-flatten-gives b k x =
-    after-the-book (Given-to-flatten b k) to-flatten-the-book λ t. which-refuses (Given-to-flatten b k) (not-below-tells k (routines b)) (to-flatten-NO-ROUTINE t) λ h.
-    which-refuses (Given-to-flatten b k) (above-tells (depth (book-of b) k) most-open) (to-flatten-DEPTH t h) λ d.
-    which-refuses (Given-to-flatten b k) (above-tells (flat-length (book-of b) k) most-flat-lines) (to-flatten-TOO-LONG t h d) λ l e. absurd (pass-is-no-refusal e)
+    let C = Given-to-flatten b k in
+    after-the-book C to-flatten-the-book λ t.
+    which-refuses C (no-routine-tells b k) (to-flatten-NO-ROUTINE t) λ h.
+    which-refuses C (depth-tells b k) (to-flatten-DEPTH t h) λ d.
+    which-refuses C (too-long-tells b k) (to-flatten-TOO-LONG t h d) λ l e. absurd (pass-is-no-refusal e)
 
 to-flatten-refuses : (b : List ℕ) (k : ℕ) (x : Refusal) → Given-to-flatten b k x → flattens-verdict b k ≡ refuse x
 unfolding flattens-verdict
 to-flatten-refuses b k x (to-flatten-the-book g) = the-book-refuses _ g
-to-flatten-refuses b k x (to-flatten-NO-ROUTINE t h) = then-goes-on _ t ∙ refuses _ _ (not-below-tells k (routines b)) h
-to-flatten-refuses b k x (to-flatten-DEPTH t h d) = then-goes-on _ t ∙ goes-on _ _ (not-below-tells k (routines b)) h ∙ refuses _ _ (above-tells (depth (book-of b) k) most-open) d
+to-flatten-refuses b k x (to-flatten-NO-ROUTINE t h) = then-goes-on _ t ∙ refuses _ _ (no-routine-tells b k) h
+to-flatten-refuses b k x (to-flatten-DEPTH t h d) = then-goes-on _ t ∙ goes-on _ _ (no-routine-tells b k) h ∙ refuses _ _ (depth-tells b k) d
 to-flatten-refuses b k x (to-flatten-TOO-LONG t h d l) =
-    then-goes-on _ t ∙ goes-on _ _ (not-below-tells k (routines b)) h ∙ goes-on _ _ (above-tells (depth (book-of b) k) most-open) d ∙ refuses _ _ (above-tells (flat-length (book-of b) k) most-flat-lines) l
+    then-goes-on _ t ∙ goes-on _ _ (no-routine-tells b k) h ∙ goes-on _ _ (depth-tells b k) d ∙ refuses _ _ (too-long-tells b k) l
 
 pub to-flatten-given-exactly-when : (b : List ℕ) (k : ℕ) (x : Refusal) → (flattens-verdict b k ≡ refuse x) ↔ Given-to-flatten b k x
 to-flatten-given-exactly-when b k x = (to-flatten-gives b k x, to-flatten-refuses b k x)
 
-pub flattens-exactly-when : (b : List ℕ) (k : ℕ) → (flattens-verdict b k ≡ pass) ↔ Flattens b k
+all-pass : (b : List ℕ) (k : ℕ) → flattens-verdict b k ≡ pass → Flattens b k
 unfolding flattens-verdict
-flattens-exactly-when b k = (
-  λ e.
-      let t = then-passes (book-verdict b) e in
-      let h = finds-no-fault _ (not-below-tells k (routines b)) (t .1) in
-      let d = finds-no-fault _ (above-tells (depth (book-of b) k) most-open) (h .1) in
-      let l = finds-no-fault _ (above-tells (flat-length (book-of b) k) most-flat-lines) (d .1) in
-      record { taken = t .0; a-routine = h .0; not-too-deep = d .0; not-too-long = l .0 },
-  λ f. then-goes-on _ (f .taken) ∙ goes-on _ _ (not-below-tells k (routines b)) (f .a-routine) ∙ goes-on _ _ (above-tells (depth (book-of b) k) most-open) (f .not-too-deep) ∙ goes-on _ _ (above-tells (flat-length (book-of b) k) most-flat-lines) (f .not-too-long),
-)
+all-pass b k e =
+    let t = then-passes (book-verdict b) e in
+    let h = finds-no-fault _ (no-routine-tells b k) (t .1) in
+    let d = finds-no-fault _ (depth-tells b k) (h .1) in
+    let l = finds-no-fault _ (too-long-tells b k) (d .1) in
+    record { taken = t .0; a-routine = h .0; not-too-deep = d .0; not-too-long = l .0 }
+
+none-refuses : (b : List ℕ) (k : ℕ) → Flattens b k → flattens-verdict b k ≡ pass
+unfolding flattens-verdict
+none-refuses b k f =
+    then-goes-on _ (f .taken) ∙ goes-on _ _ (no-routine-tells b k) (f .a-routine)
+    ∙ goes-on _ _ (depth-tells b k) (f .not-too-deep) ∙ goes-on _ _ (too-long-tells b k) (f .not-too-long)
+
+pub flattens-exactly-when : (b : List ℕ) (k : ℕ) → (flattens-verdict b k ≡ pass) ↔ Flattens b k
+flattens-exactly-when b k = (all-pass b k, none-refuses b k)
+
+-- A refusal of flattening or of the quote is one of these, or the routine flattens and the refusal is one of the call's own tests.
+after-these : (b : List ℕ) (k : ℕ) {v : Verdict} {x : Refusal} (C : Refusal → Type 0) → (Given-to-flatten b k x → C x)
+    → (Flattens b k → v ≡ refuse x → C x) → flattens-verdict b k and-then v ≡ refuse x → C x
+after-these b k {x = x} C f g e =
+    ⊎-elim (λ r. f (to-flatten-gives b k x r)) (λ r. g (all-pass b k (r .0)) (r .1)) (which-then-refuses (flattens-verdict b k) e)
 
 -- ---- flattening
 
+-- 14 NO ROOM: output shorter than 16 + 4n bytes
+no-room-tells : (b : List ℕ) (k room : ℕ)
+    → Tells (room below flat-book-bytes (flat-length (book-of b) k)) (room < flat-book-bytes (flat-length (book-of b) k)) (flat-book-bytes (flat-length (book-of b) k) ≤ room)
+no-room-tells b k room = below-tells room (flat-book-bytes (flat-length (book-of b) k))
+
 flattening-gives : (b : List ℕ) (k room : ℕ) (x : Refusal) → flatten-verdict b k room ≡ refuse x → Given-flattening b k room x
 unfolding flatten-verdict
-flattening-gives b k room x e =
-    ⊎-elim (λ r. flattening-before (to-flatten-gives b k x r)) (λ r. which-refuses (Given-flattening b k room) (below-tells room (flat-book-bytes (flat-length (book-of b) k))) (flattening-NO-ROOM (flattens-exactly-when b k .0 (r .0))) (λ n p. absurd (pass-is-no-refusal p)) (r .1))
-    (which-then-refuses (flattens-verdict b k) e)
+flattening-gives b k room x =
+    let C = Given-flattening b k room in
+    after-these b k C flattening-before λ f.
+    which-refuses C (no-room-tells b k room) (flattening-NO-ROOM f) λ n e. absurd (pass-is-no-refusal e)
 
 flattening-refuses : (b : List ℕ) (k room : ℕ) (x : Refusal) → Given-flattening b k room x → flatten-verdict b k room ≡ refuse x
 unfolding flatten-verdict
 flattening-refuses b k room x (flattening-before g) = then-refuses _ (to-flatten-refuses b k x g)
-flattening-refuses b k room x (flattening-NO-ROOM f h) = then-goes-on _ (flattens-exactly-when b k .1 f) ∙ refuses _ _ (below-tells room (flat-book-bytes (flat-length (book-of b) k))) h
+flattening-refuses b k room x (flattening-NO-ROOM f h) = then-goes-on _ (none-refuses b k f) ∙ refuses _ _ (no-room-tells b k room) h
 
 pub flattening-given-exactly-when : (b : List ℕ) (k room : ℕ) (x : Refusal) → (flatten-verdict b k room ≡ refuse x) ↔ Given-flattening b k room x
 flattening-given-exactly-when b k room x = (flattening-gives b k room x, flattening-refuses b k room x)
 
 -- ---- the quote
 
+-- 18 NOT STEADY: the routine is not steady
+not-steady-tells : (b : List ℕ) (k : ℕ) → Tells (not (steady (book-of b) k)) (steady (book-of b) k ≡ false) (steady (book-of b) k ≡ true)
+not-steady-tells b k = not-tells (itself-tells (steady (book-of b) k))
+
+-- 19 QUOTE: quote above 2^64-1
+quote-tells : (b : List ℕ) (k : ℕ) → Tells (quote (book-of b) k above most-quote) (most-quote < quote (book-of b) k) (quote (book-of b) k ≤ most-quote)
+quote-tells b k = above-tells (quote (book-of b) k) most-quote
+
 quote-gives : (b : List ℕ) (k : ℕ) (x : Refusal) → quote-verdict b k ≡ refuse x → Given-quote b k x
 unfolding quote-verdict
-quote-gives b k x e =
-    ⊎-elim (λ r. quote-before (to-flatten-gives b k x r)) (λ r.
-    let f = flattens-exactly-when b k .0 (r .0) in
-    which-refuses (Given-quote b k) (not-tells (itself-tells (steady (book-of b) k))) (quote-NOT-STEADY f) (λ s. which-refuses (Given-quote b k) (above-tells (quote (book-of b) k) most-quote) (quote-QUOTE f s) λ n p. absurd (pass-is-no-refusal p)) (r .1))
-    (which-then-refuses (flattens-verdict b k) e)
+quote-gives b k x =
+    let C = Given-quote b k in
+    after-these b k C quote-before λ f.
+    which-refuses C (not-steady-tells b k) (quote-NOT-STEADY f) λ s.
+    which-refuses C (quote-tells b k) (quote-QUOTE f s) λ n e. absurd (pass-is-no-refusal e)
 
 quote-refuses : (b : List ℕ) (k : ℕ) (x : Refusal) → Given-quote b k x → quote-verdict b k ≡ refuse x
 unfolding quote-verdict
 quote-refuses b k x (quote-before g) = then-refuses _ (to-flatten-refuses b k x g)
-quote-refuses b k x (quote-NOT-STEADY f s) = then-goes-on _ (flattens-exactly-when b k .1 f) ∙ refuses _ _ (not-tells (itself-tells (steady (book-of b) k))) s
+quote-refuses b k x (quote-NOT-STEADY f s) = then-goes-on _ (none-refuses b k f) ∙ refuses _ _ (not-steady-tells b k) s
 quote-refuses b k x (quote-QUOTE f s q) =
-    then-goes-on _ (flattens-exactly-when b k .1 f) ∙ goes-on _ _ (not-tells (itself-tells (steady (book-of b) k))) s ∙ refuses _ _ (above-tells (quote (book-of b) k) most-quote) q
+    then-goes-on _ (none-refuses b k f) ∙ goes-on _ _ (not-steady-tells b k) s ∙ refuses _ _ (quote-tells b k) q
 
 pub quote-given-exactly-when : (b : List ℕ) (k : ℕ) (x : Refusal) → (quote-verdict b k ≡ refuse x) ↔ Given-quote b k x
 quote-given-exactly-when b k x = (quote-gives b k x, quote-refuses b k x)
 
 -- ---- running
 
-running-gives : (b : List ℕ) {t : Bool} {N : Type 0} (start : ℕ) (x : Refusal) → Tells t N (¬ N) → run-verdict b t start ≡ refuse x → Given-running b N start x
-unfolding run-verdict
-running-gives b {N} start x i =
-    after-the-book (Given-running b N start) running-the-book λ t. which-refuses (Given-running b N start) (above-tells (routines b) 1) (running-NOT-FLAT t) λ h.
-    which-refuses (Given-running b N start) i (running-REGISTERS t h) λ n. which-refuses (Given-running b N start) (above-tells start (lines b)) (running-LINE t h n) λ l e. absurd (pass-is-no-refusal e)
+-- 15 NOT FLAT: more than one routine
+not-flat-tells : (b : List ℕ) → Tells (routines b above 1) (1 < routines b) (routines b ≤ 1)
+not-flat-tells b = above-tells (routines b) 1
 
-running-refuses : (b : List ℕ) {t : Bool} {N : Type 0} (start : ℕ) (x : Refusal) → Tells t N (¬ N) → Given-running b N start x → run-verdict b t start ≡ refuse x
-unfolding run-verdict
-running-refuses b start x i (running-the-book g) = the-book-refuses _ g
-running-refuses b start x i (running-NOT-FLAT t h) = then-goes-on _ t ∙ refuses _ _ (above-tells (routines b) 1) h
-running-refuses b start x i (running-REGISTERS t h n) = then-goes-on _ t ∙ goes-on _ _ (above-tells (routines b) 1) h ∙ refuses _ _ i n
-running-refuses b start x i (running-LINE t h n l) = then-goes-on _ t ∙ goes-on _ _ (above-tells (routines b) 1) h ∙ goes-on _ _ i n ∙ refuses _ _ (above-tells start (lines b)) l
+-- 17 LINE: start line or state's line above n
+past-the-end-tells : (b : List ℕ) (line : ℕ) → Tells (line above lines b) (lines b < line) (line ≤ lines b)
+past-the-end-tells b line = above-tells line (lines b)
 
--- for every test that tells whether the lent registers are not 32, ..
-pub running-given-exactly-when : (b : List ℕ) {t : Bool} {N : Type 0} (start : ℕ) (x : Refusal) → Tells t N (¬ N) → (run-verdict b t start ≡ refuse x) ↔ Given-running b N start x
-running-given-exactly-when b start x i = (running-gives b start x i, running-refuses b start x i)
+module _ (b : List ℕ) {not-32 : Bool} {Not-32 : Type 0} (start : ℕ) (i : Tells not-32 Not-32 (¬ Not-32)) where
+  running-gives : (x : Refusal) → run-verdict b not-32 start ≡ refuse x → Given-running b Not-32 start x
+  unfolding run-verdict
+  running-gives x =
+      let C = Given-running b Not-32 start in
+      after-the-book C running-the-book λ t.
+      which-refuses C (not-flat-tells b) (running-NOT-FLAT t) λ h.
+      which-refuses C i (running-REGISTERS t h) λ n.
+      which-refuses C (past-the-end-tells b start) (running-LINE t h n) λ l e. absurd (pass-is-no-refusal e)
+
+  running-refuses : (x : Refusal) → Given-running b Not-32 start x → run-verdict b not-32 start ≡ refuse x
+  unfolding run-verdict
+  running-refuses x (running-the-book g) = the-book-refuses _ g
+  running-refuses x (running-NOT-FLAT t h) = then-goes-on _ t ∙ refuses _ _ (not-flat-tells b) h
+  running-refuses x (running-REGISTERS t h n) = then-goes-on _ t ∙ goes-on _ _ (not-flat-tells b) h ∙ refuses _ _ i n
+  running-refuses x (running-LINE t h n l) =
+      then-goes-on _ t ∙ goes-on _ _ (not-flat-tells b) h ∙ goes-on _ _ i n ∙ refuses _ _ (past-the-end-tells b start) l
+
+  -- for every test that tells whether the lent registers are not 32, ..
+  pub running-given-exactly-when : (x : Refusal) → (run-verdict b not-32 start ≡ refuse x) ↔ Given-running b Not-32 start x
+  running-given-exactly-when x = (running-gives x, running-refuses x)
 
 -- .. the test as it stands, ..
-pub running-by-the-test : (b : List ℕ) (not-32 : Bool) (start : ℕ) (x : Refusal) → (run-verdict b not-32 start ≡ refuse x) ↔ Given-running b (not-32 ≡ true) start x
-running-by-the-test b not-32 start x = running-given-exactly-when b start x (no-fault (itself-tells not-32))
+pub running-by-the-test : (b : List ℕ) (not-32 : Bool) (start : ℕ) (x : Refusal)
+    → (run-verdict b not-32 start ≡ refuse x) ↔ Given-running b (not-32 ≡ true) start x
+running-by-the-test b not-32 start x = running-given-exactly-when b start (no-fault (itself-tells not-32)) x
 
 -- .. a list of registers, ..
-pub running-with-registers : (b : List ℕ) (rs : Registers) (start : ℕ) (x : Refusal) → (run-verdict b (length rs is-not register-count) start ≡ refuse x) ↔ Given-running b (length rs ≢ register-count) start x
-running-with-registers b rs start x = running-given-exactly-when b start x (no-fault (is-not-tells (length rs) register-count))
+pub running-with-registers : (b : List ℕ) (rs : Registers) (start : ℕ) (x : Refusal)
+    → (run-verdict b (length rs is-not register-count) start ≡ refuse x) ↔ Given-running b (length rs ≢ register-count) start x
+running-with-registers b rs start x = running-given-exactly-when b start (no-fault (is-not-tells (length rs) register-count)) x
 
 -- .. and the page's bytes.
-pub running-with-bytes : (b bytes : List ℕ) (start : ℕ) (x : Refusal) → (run-verdict b (length bytes is-not registers-length) start ≡ refuse x) ↔ Given-running b (length bytes ≢ registers-length) start x
-running-with-bytes b bytes start x = running-given-exactly-when b start x (no-fault (is-not-tells (length bytes) registers-length))
+pub running-with-bytes : (b bytes : List ℕ) (start : ℕ) (x : Refusal)
+    → (run-verdict b (length bytes is-not registers-length) start ≡ refuse x) ↔ Given-running b (length bytes ≢ registers-length) start x
+running-with-bytes b bytes start x = running-given-exactly-when b start (no-fault (is-not-tells (length bytes) registers-length)) x
 
 -- ---- the bench step
 
 bench-gives : (b : List ℕ) (line : ℕ) (x : Refusal) → bench-verdict b line ≡ refuse x → Given-bench b line x
 unfolding bench-verdict
 bench-gives b line x =
-    after-the-book (Given-bench b line) bench-the-book λ t. which-refuses (Given-bench b line) (above-tells (routines b) 1) (bench-NOT-FLAT t) λ h.
-    which-refuses (Given-bench b line) (above-tells line (lines b)) (bench-LINE t h) λ l e. absurd (pass-is-no-refusal e)
+    let C = Given-bench b line in
+    after-the-book C bench-the-book λ t.
+    which-refuses C (not-flat-tells b) (bench-NOT-FLAT t) λ h.
+    which-refuses C (past-the-end-tells b line) (bench-LINE t h) λ l e. absurd (pass-is-no-refusal e)
 
 bench-refuses : (b : List ℕ) (line : ℕ) (x : Refusal) → Given-bench b line x → bench-verdict b line ≡ refuse x
 unfolding bench-verdict
 bench-refuses b line x (bench-the-book g) = the-book-refuses _ g
-bench-refuses b line x (bench-NOT-FLAT t h) = then-goes-on _ t ∙ refuses _ _ (above-tells (routines b) 1) h
-bench-refuses b line x (bench-LINE t h l) = then-goes-on _ t ∙ goes-on _ _ (above-tells (routines b) 1) h ∙ refuses _ _ (above-tells line (lines b)) l
+bench-refuses b line x (bench-NOT-FLAT t h) = then-goes-on _ t ∙ refuses _ _ (not-flat-tells b) h
+bench-refuses b line x (bench-LINE t h l) = then-goes-on _ t ∙ goes-on _ _ (not-flat-tells b) h ∙ refuses _ _ (past-the-end-tells b line) l
 
 pub bench-given-exactly-when : (b : List ℕ) (line : ℕ) (x : Refusal) → (bench-verdict b line ≡ refuse x) ↔ Given-bench b line x
 bench-given-exactly-when b line x = (bench-gives b line x, bench-refuses b line x)

@@ -36,18 +36,20 @@ not-both i p q = true≢false (sym (i .when-true .1 p) ∙ i .when-false .1 q)
 pub else-holds : {t : Bool} {P Q : Type 0} → Tells t P Q → ¬ P → Q
 else-holds i n = ⊎-elim (λ p. absurd (n p)) (λ q. q) (one-holds i)
 
+told-true : {P Q : Type 0} → P → ¬ Q → Tells true P Q
+told-true p n = record { when-true = (λ e. p, λ x. refl); when-false = (λ e. absurd (true≢false e), λ q. absurd (n q)) }
+
+told-false : {P Q : Type 0} → ¬ P → Q → Tells false P Q
+told-false n q = record { when-true = (λ e. absurd (false≢true e), λ p. absurd (n p)); when-false = (λ e. q, λ x. refl) }
+
 -- the same test in other words
 pub in-words : {t : Bool} {P Q P′ Q′ : Type 0} → Tells t P Q → (P → P′) → (Q → Q′) → (P′ → Q′ → ⊥) → Tells t P′ Q′
 in-words {t = true} i f g apart =
-    record {
-      when-true = (λ e. f (i .when-true .0 refl), λ p. refl);
-      when-false = (λ e. absurd (true≢false e), λ q. absurd (apart (f (i .when-true .0 refl)) q));
-    }
+    let p = f (i .when-true .0 refl) in
+    told-true p (apart p)
 in-words {t = false} i f g apart =
-    record {
-      when-true = (λ e. absurd (false≢true e), λ p. absurd (apart p (g (i .when-false .0 refl))));
-      when-false = (λ e. g (i .when-false .0 refl), λ q. refl);
-    }
+    let q = g (i .when-false .0 refl) in
+    told-false (λ p. apart p q) q
 
 -- A test that tells a fault is false exactly when there is no such fault.
 pub no-fault : {t : Bool} {P Q : Type 0} → Tells t P Q → Tells t P (¬ P)
@@ -67,15 +69,11 @@ is-tells m n = record { when-true = (eqb-true m n, eq-eqb m n); when-false = (eq
 
 pub not-tells : {t : Bool} {P Q : Type 0} → Tells t P Q → Tells (not t) Q P
 not-tells {t = true} i =
-    record {
-      when-true = (λ e. absurd (false≢true e), λ q. absurd (not-both i (i .when-true .0 refl) q));
-      when-false = (λ e. i .when-true .0 refl, λ p. refl);
-    }
+    let p = i .when-true .0 refl in
+    told-false (not-both i p) p
 not-tells {t = false} i =
-    record {
-      when-true = (λ e. i .when-false .0 refl, λ q. refl);
-      when-false = (λ e. absurd (true≢false e), λ p. absurd (not-both i p (i .when-false .0 refl)));
-    }
+    let q = i .when-false .0 refl in
+    told-true q (λ p. not-both i p q)
 
 pub is-not-tells : (m n : ℕ) → Tells (m is-not n) (m ≢ n) (m ≡ n)
 is-not-tells m n = not-tells (is-tells m n)
@@ -84,23 +82,26 @@ pub itself-tells : (t : Bool) → Tells t (t ≡ true) (t ≡ false)
 itself-tells t = record { when-true = (λ e. e, λ e. e); when-false = (λ e. e, λ e. e) }
 
 pub never-tells : Tells false ⊥ (Unit {0})
-never-tells = record { when-true = (λ e. false≢true e, λ x. absurd x); when-false = (λ e. tt, λ x. refl) }
+never-tells = told-false (λ x. x) tt
 
 -- a test that is made where another is true, and a third where it is false
-pub if-tells : {s t u : Bool} {S S′ T T′ U U′ : Type 0} → Tells s S S′ → Tells t T T′ → Tells u U U′ → Tells (if s t u) ((S × T) ⊎ (S′ × U)) ((S × T′) ⊎ (S′ × U′))
+pub if-tells : {s t u : Bool} {S S′ T T′ U U′ : Type 0} → Tells s S S′ → Tells t T T′ → Tells u U U′
+    → Tells (if s t u) ((S × T) ⊎ (S′ × U)) ((S × T′) ⊎ (S′ × U′))
 unfolding if
 if-tells {s = true} i j k =
     let s = i .when-true .0 refl in
-    in-words j (λ t. inl (s, t)) (λ t. inl (s, t)) (⊎-elim (λ x. ⊎-elim (λ y. not-both j (x .1) (y .1)) (λ y. not-both i s (y .0))) (λ x. absurd (not-both i s (x .0))))
+    in-words j (λ t. inl (s, t)) (λ t. inl (s, t))
+    (⊎-elim (λ x. ⊎-elim (λ y. not-both j (x .1) (y .1)) (λ y. not-both i s (y .0))) (λ x. absurd (not-both i s (x .0))))
 if-tells {s = false} i j k =
     let s = i .when-false .0 refl in
-    in-words k (λ u. inr (s, u)) (λ u. inr (s, u)) (⊎-elim (λ x. absurd (not-both i (x .0) s)) (λ x. ⊎-elim (λ y. not-both i (y .0) s) (λ y. not-both k (x .1) (y .1))))
+    in-words k (λ u. inr (s, u)) (λ u. inr (s, u))
+    (⊎-elim (λ x. absurd (not-both i (x .0) s)) (λ x. ⊎-elim (λ y. not-both i (y .0) s) (λ y. not-both k (x .1) (y .1))))
 
 pub or-tells : {s t : Bool} {P P′ Q Q′ : Type 0} → Tells s P P′ → Tells t Q Q′ → Tells (s or t) (P ⊎ Q) (P′ × Q′)
 unfolding if
 or-tells {s = true} i j =
     let p = i .when-true .0 refl in
-    in-words i (λ p. inl p) (λ p′. absurd (not-both i p p′)) (λ x q. not-both i p (q .0))
+    told-true (inl p) (λ q. not-both i p (q .0))
 or-tells {s = false} i j =
     let p = i .when-false .0 refl in
     in-words j (λ q. inr q) (λ q. (p, q)) (λ x q. ⊎-elim (λ y. not-both i y p) (λ y. not-both j y (q .1)) x)
@@ -112,7 +113,7 @@ and-tells {s = true} i j =
     in-words j (λ q. (p, q)) (λ q. inr q) (λ q x. ⊎-elim (λ y. not-both i p y) (λ y. not-both j (q .1) y) x)
 and-tells {s = false} i j =
     let p = i .when-false .0 refl in
-    in-words i (λ q. absurd (not-both i q p)) (λ q. inl q) (λ q x. not-both i (q .0) p)
+    told-false (λ q. not-both i (q .0) p) (inl p)
 
 -- what holds of both ways of an `if`
 pub either-way : {A : Type 0} {t : Bool} {P Q : Type 0} {a b : A} (C : A → Type 0) → Tells t P Q → (P → C a) → (Q → C b) → C (if t a b)
@@ -159,7 +160,8 @@ pub then-refuses : {u : Verdict} {x : Refusal} (v : Verdict) → u ≡ refuse x 
 unfolding _and-then_
 then-refuses v e = rw e
 
-pub which-then-refuses : (u : Verdict) {v : Verdict} {x : Refusal} → u and-then v ≡ refuse x → (u ≡ refuse x) ⊎ ((u ≡ pass) × (v ≡ refuse x))
+pub which-then-refuses : (u : Verdict) {v : Verdict} {x : Refusal} → u and-then v ≡ refuse x
+    → (u ≡ refuse x) ⊎ ((u ≡ pass) × (v ≡ refuse x))
 unfolding _and-then_
 which-then-refuses pass e = inr (refl, e)
 which-then-refuses (refuse y) e = inl e
@@ -170,6 +172,11 @@ then-passes pass e = (refl, e)
 then-passes (refuse y) e = absurd (pass-is-no-refusal (sym e))
 
 -- ---- the first refusal among many
+
+-- One more passes.
+pub one-more-passes : (t : ℕ → Verdict) (n : ℕ) → first t n ≡ pass → t n ≡ pass → first t (suc n) ≡ pass
+unfolding first
+one-more-passes t n e f = then-goes-on (t n) e ∙ f
 
 each-passes : (t : ℕ → Verdict) (n : ℕ) → first t n ≡ pass → (k : ℕ) → k < n → t k ≡ pass
 unfolding first
@@ -183,7 +190,7 @@ each-passes t (suc n) e k h =
 all-pass : (t : ℕ → Verdict) (n : ℕ) → ((k : ℕ) → k < n → t k ≡ pass) → first t n ≡ pass
 unfolding first
 all-pass t zero f = refl
-all-pass t (suc n) f = then-goes-on (t n) (all-pass t n (λ k h. f k (omega arith))) ∙ f n (omega arith)
+all-pass t (suc n) f = one-more-passes t n (all-pass t n (λ k h. f k (omega arith))) (f n (omega arith))
 
 -- All of n pass exactly when each of them does.
 pub first-passes : (t : ℕ → Verdict) (n : ℕ) → (first t n ≡ pass) ↔ ((k : ℕ) → k < n → t k ≡ pass)
@@ -206,14 +213,16 @@ first-found t (suc n) e =
     (λ f. record { at = n; within = omega arith; is-refused = f .1; all-before-pass = each-passes t n (f .0) })
     (which-then-refuses (first t n) e)
 
-first-named : (t : ℕ → Verdict) (n k : ℕ) {x : Refusal} → k < n → t k ≡ refuse x → ((i : ℕ) → i < k → t i ≡ pass) → first t n ≡ refuse x
+-- A refusal before which all pass is the first, however many follow.
+pub first-hit : (t : ℕ → Verdict) (n k : ℕ) {x : Refusal} → k < n → first t k ≡ pass → t k ≡ refuse x → first t n ≡ refuse x
 unfolding first
-first-named t zero k h e f = absurd (omega arith)
-first-named t (suc n) k h e f =
-    ⊎-elim (λ (l : k < n). then-refuses (t n) (first-named t n k l e f)) (λ (l : n ≤ k).
+first-hit t zero k h f e = absurd (omega arith)
+first-hit t (suc n) k h f e =
+    ⊎-elim (λ (l : k < n). then-refuses (t n) (first-hit t n k l f e)) (λ (l : n ≤ k).
     let same : n ≡ k = omega arith in
-    then-goes-on (t n) (all-pass t n (λ i g. f i (omega arith))) ∙ ap t same ∙ e) (one-holds (below-tells k n))
+    then-goes-on (t n) (ap (first t) same ∙ f) ∙ ap t same ∙ e) (one-holds (below-tells k n))
 
 -- The lowest that is refused is the one named.
 pub first-refuses : (t : ℕ → Verdict) (n : ℕ) (x : Refusal) → (first t n ≡ refuse x) ↔ First-refusal t n x
-first-refuses t n x = (first-found t n, λ h. first-named t n (h .at) (h .within) (h .is-refused) (h .all-before-pass))
+first-refuses t n x =
+    (first-found t n, λ h. first-hit t n (h .at) (h .within) (all-pass t (h .at) (h .all-before-pass)) (h .is-refused))
