@@ -6,7 +6,7 @@ use mathlib.Core.Path.{_≡_, refl, sym, _∙_, ap}
 use mathlib.Core.List.{List, [], _∷_, _++_, append-assoc}
 use lib.ListN.{length, take, drop, length-append}
 use lib.Seq.{drop-drop, drop-append-seam}
-use Rattle.scope.specs.Ram.{Instruction, Program}
+use Rattle.scope.specs.Ram.{Program}
 use Rattle.scope.specs.Book.{Line, INC, DEC, GO-TO, CALL, REPEAT, Book, routine, Callees-below, said-below, from-the-lowest-up}
 use Rattle.scope.specs.Flattening.{line-length, sum-of, length-by, flat-length, start, copy-line, copy-lines, copy-by, copy, flat-program}
 use Rattle.scope.proofs.Lowest.{flat-length-by-the-rule, copy-by-the-rule}
@@ -21,7 +21,9 @@ drop-tail ls i e =
 -- ---- sums up to a line
 
 module _ (of-line : Line → ℕ) where
-  sum-to-the-next : {l : Line} {rest : List Line} (ls : List Line) (i : ℕ) → drop i ls ≡ l ∷ rest → sum-of of-line (take (suc i) ls) ≡ sum-of of-line (take i ls) + of-line l
+  sum-to-the-next :
+      {l : Line} {rest : List Line} (ls : List Line) (i : ℕ) → drop i ls ≡ l ∷ rest
+      → sum-of of-line (take (suc i) ls) ≡ sum-of of-line (take i ls) + of-line l
   unfolding sum-of
   sum-to-the-next {l} [] zero e = let y : _≡_ {A = ℕ} 0 1 = cc in absurd (omega arith)
   sum-to-the-next {l} [] (suc i) e = let y : _≡_ {A = ℕ} 0 1 = cc in absurd (omega arith)
@@ -38,7 +40,8 @@ module _ (of-line : Line → ℕ) where
 -- ---- a copy is as long as the lengths say
 
 module _ (book : Book) where
-  length-copy-line : (copy : ℕ → ℕ → Program) (length-of : ℕ → ℕ) (as-long : (c b : ℕ) → length (copy c b) ≡ length-of c) (k b p : ℕ) (l : Line)
+  length-copy-line :
+      (copy : ℕ → ℕ → Program) (length-of : ℕ → ℕ) (as-long : (c b : ℕ) → length (copy c b) ≡ length-of c) (k b p : ℕ) (l : Line)
       → length (copy-line book copy k b p l) ≡ line-length length-of l
   unfolding copy-line line-length
   length-copy-line copy length-of as-long k b p (INC r) = refl
@@ -47,16 +50,24 @@ module _ (book : Book) where
   length-copy-line copy length-of as-long k b p (CALL c) = as-long c p
   length-copy-line copy length-of as-long k b p (REPEAT r c) = rw (length-append (copy c (p + 1)) _, as-long c (p + 1)) (omega arith)
 
-  length-copy-lines : (copy : ℕ → ℕ → Program) (length-of : ℕ → ℕ) (as-long : (c b : ℕ) → length (copy c b) ≡ length-of c) (k b p : ℕ) (ls : List Line)
+  length-copy-lines :
+      (copy : ℕ → ℕ → Program) (length-of : ℕ → ℕ) (as-long : (c b : ℕ) → length (copy c b) ≡ length-of c) (k b p : ℕ) (ls : List Line)
       → length (copy-lines book copy k b p ls) ≡ sum-of (line-length length-of) ls
   unfolding copy-lines sum-of
   length-copy-lines copy length-of as-long k b p [] = refl
-  length-copy-lines copy length-of as-long k b p (l ∷ ls) = rw (length-append (copy-line book copy k b p l) (copy-lines book copy k b (p + line-length (flat-length book) l) ls), length-copy-line copy length-of as-long k b p l, length-copy-lines copy length-of as-long k b (p + line-length (flat-length book) l) ls) refl
+  length-copy-lines copy length-of as-long k b p (l ∷ ls) =
+      let next = p + line-length (flat-length book) l in
+      rw (
+        length-append (copy-line book copy k b p l) (copy-lines book copy k b next ls),
+        length-copy-line copy length-of as-long k b p l,
+        length-copy-lines copy length-of as-long k b next ls,
+      ) refl
 
   length-copy-below : (n k b : ℕ) → length (said-below (λ b. []) (copy-by book) n k b) ≡ said-below 0 (length-by book) n k
   unfolding said-below copy-by length-by
   length-copy-below zero k b = refl
-  length-copy-below (suc n) k b = length-copy-lines (said-below (λ b. []) (copy-by book) n) (said-below 0 (length-by book) n) (length-copy-below n) k b b (routine book k)
+  length-copy-below (suc n) k b =
+      length-copy-lines (said-below (λ b. []) (copy-by book) n) (said-below 0 (length-by book) n) (length-copy-below n) k b b (routine book k)
 
   pub length-copy : (k b : ℕ) → length (copy book k b) ≡ flat-length book k
   unfolding copy flat-length from-the-lowest-up
@@ -74,7 +85,9 @@ module _ (book : Book) where
   unfolding start sum-of
   first-start k = refl
 
-  pub next-start : {l : Line} {rest : List Line} (k i : ℕ) → drop i (routine book k) ≡ l ∷ rest → start book k (suc i) ≡ start book k i + line-length (flat-length book) l
+  pub next-start :
+      {l : Line} {rest : List Line} (k i : ℕ) → drop i (routine book k) ≡ l ∷ rest
+      → start book k (suc i) ≡ start book k i + line-length (flat-length book) l
   unfolding start
   next-start k i e = sum-to-the-next (line-length (flat-length book)) (routine book k) i e
 
@@ -94,7 +107,8 @@ module _ {P : Program} {p : ℕ} where
       record {
         behind = s .behind;
         there = rw e
-            (sym (drop-drop (length xs) p P) ∙ ap (drop (length xs)) (s .there ∙ append-assoc xs ys (s .behind)) ∙ drop-append-seam xs (ys ++ s .behind));
+            (sym (drop-drop (length xs) p P) ∙ ap (drop (length xs)) (s .there ∙ append-assoc xs ys (s .behind))
+            ∙ drop-append-seam xs (ys ++ s .behind));
       }
 
 module _ (book : Book) (ok : Callees-below book) where
@@ -112,11 +126,13 @@ module _ (book : Book) (ok : Callees-below book) where
   lines-stand {l = l} k b q p (x ∷ ls) zero s e a =
       let z : x ≡ l = cc in
       let w : p ≡ q = omega arith in
-      rw (w, sym z) (front-stands (copy-line book (copy book) k b q x) (copy-lines book (copy book) k b (q + line-length (flat-length book) x) ls) s)
+      let next = q + line-length (flat-length book) x in
+      rw (w, sym z) (front-stands (copy-line book (copy book) k b q x) (copy-lines book (copy book) k b next ls) s)
   lines-stand {l = l} k b q p (x ∷ ls) (suc i) s e a =
       let next = q + line-length (flat-length book) x in
+      let behind : next ≡ q + length (copy-line book (copy book) k b q x) = rw (length-line book k b q x) refl in
       lines-stand k b next p ls i
-      (rest-stands (copy-line book (copy book) k b q x) (copy-lines book (copy book) k b next ls) next s (rw (length-line book k b q x) refl)) e (omega arith)
+      (rest-stands (copy-line book (copy book) k b q x) (copy-lines book (copy book) k b next ls) next s behind) e (omega arith)
 
   -- Line i of a copy of routine k that begins at b stands at b plus where the line starts.
   pub line-stands : {P : Program} {l : Line} {rest : List Line} {b p : ℕ} (k i : ℕ)

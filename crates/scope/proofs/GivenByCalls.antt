@@ -1,4 +1,4 @@
--- Reading, flattening, quoting, running and the bench step are refused with 11 to 19 exactly when the table of document 01 says so.
+-- Reading, flattening, quoting, running, the bench step and the shop's program are refused exactly when document 01 says so.
 -- The book's own refusals come first; then each call's tests are taken apart in their order. Assumes nothing.
 use Prim.Native.Nat.{ℕ, _<_, _≤_}
 use mathlib.Core.Bool.{Bool, true, false, not}
@@ -14,8 +14,9 @@ use Rattle.scope.specs.Flattening.{flat-length, flat-book-bytes, most-fl
 use Rattle.scope.specs.Running.{run-verdict, bench-verdict}
 use Rattle.scope.specs.Quote.{steady, quote, most-quote, quote-verdict}
 use Rattle.scope.specs.Page.{registers-length}
+use Rattle.scope.specs.Shop.{trailer-length, most-input, shop-verdict}
 use Rattle.scope.specs.Given.{Given}
-use Rattle.scope.specs.GivenByCalls.{Given-reading, reading-the-book, reading-NO-ROUTINE, reading-LINE, Given-to-flatten, to-flatten-the-book, to-flatten-NO-ROUTINE, to-flatten-DEPTH, to-flatten-TOO-LONG, Flattens, Given-flattening, flattening-before, flattening-NO-ROOM, Given-quote, quote-before, quote-NOT-STEADY, quote-QUOTE, Given-running, running-the-book, running-NOT-FLAT, running-REGISTERS, running-LINE, Given-bench, bench-the-book, bench-NOT-FLAT, bench-LINE}
+use Rattle.scope.specs.GivenByCalls.{Given-reading, reading-the-book, reading-NO-ROUTINE, reading-LINE, Given-to-flatten, to-flatten-the-book, to-flatten-NO-ROUTINE, to-flatten-DEPTH, to-flatten-TOO-LONG, Flattens, Given-flattening, flattening-before, flattening-NO-ROOM, Given-quote, quote-before, quote-NOT-STEADY, quote-QUOTE, Given-running, running-the-book, running-NOT-FLAT, running-REGISTERS, running-LINE, Given-bench, bench-the-book, bench-NOT-FLAT, bench-LINE, Given-in-the-shop, shop-SHORT, shop-LENGTH, shop-before}
 use Rattle.scope.proofs.Verdicts.{Tells, no-fault, itself-tells, above-tells, below-tells, not-below-tells, is-not-tells, not-tells, pass-is-no-refusal, refuses, goes-on, which-refuses, finds-no-fault, then-goes-on, then-refuses, which-then-refuses, then-passes}
 use Rattle.scope.proofs.GivenExactlyWhen.{given-exactly-when}
 
@@ -225,3 +226,24 @@ bench-refuses b line x (bench-LINE t h l) = then-goes-on _ t ∙ goes-on _ _ (no
 
 pub bench-given-exactly-when : (b : List ℕ) (line : ℕ) (x : Refusal) → (bench-verdict b line ≡ refuse x) ↔ Given-bench b line x
 bench-given-exactly-when b line x = (bench-gives b line x, bench-refuses b line x)
+
+-- ---- the shop's program
+
+shop-gives : (input : List ℕ) (x : Refusal) → shop-verdict input ≡ refuse x → Given-in-the-shop input x
+unfolding shop-verdict
+shop-gives input x =
+    which-refuses (Given-in-the-shop input) (below-tells (length input) trailer-length) shop-SHORT λ h.
+    which-refuses (Given-in-the-shop input) (above-tells (length input) most-input) (shop-LENGTH h) λ l e.
+    shop-before h l (to-flatten-gives _ _ x e)
+
+shop-refuses : (input : List ℕ) (x : Refusal) → Given-in-the-shop input x → shop-verdict input ≡ refuse x
+unfolding shop-verdict
+shop-refuses input x (shop-SHORT h) = refuses _ _ (below-tells (length input) trailer-length) h
+shop-refuses input x (shop-LENGTH h l) =
+    goes-on _ _ (below-tells (length input) trailer-length) h ∙ refuses _ _ (above-tells (length input) most-input) l
+shop-refuses input x (shop-before h l g) =
+    goes-on _ _ (below-tells (length input) trailer-length) h ∙ goes-on _ _ (above-tells (length input) most-input) l
+    ∙ to-flatten-refuses _ _ x g
+
+pub shop-given-exactly-when : (input : List ℕ) (x : Refusal) → (shop-verdict input ≡ refuse x) ↔ Given-in-the-shop input x
+shop-given-exactly-when input x = (shop-gives input x, shop-refuses input x)

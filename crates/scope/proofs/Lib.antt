@@ -1,20 +1,34 @@
--- What is proved about the definitions of specs/. `Computed` opens them all; the others are what docs/PROMISES.md lists.
+-- What is proved about the definitions of specs/; docs/PROMISES.md lists every law with its meaning. A file uses those above it only.
+-- worked-out cases
 pub mod Computed
 pub mod Samples
 pub mod Calls
 pub mod Refused
 pub mod Sizes
+pub mod Slips
+-- refusals, and what a taken book gives
 pub mod Verdicts
 pub mod Tests
 pub mod GivenExactlyWhen
 pub mod GivenByCalls
 pub mod Listed
 pub mod TakenBook
+-- the flat machine is source document 000's
+pub mod Registers
+pub mod Ram
+pub mod StepIsRam
+pub mod RunExactly
+pub mod TakenProgram
+-- the flat run ends as the nested reading says, and the quote is enough
 pub mod Lowest
 pub mod FlatLines
+pub mod Moves
 pub mod Places
 pub mod Simulation
-pub mod Moves
+pub mod Steady
+pub mod QuoteEnough
+pub mod Depth
+-- what flattening writes is a book again
 pub mod OneRoutine
 pub mod WrittenBook
 pub mod FlatBook

@@ -6,10 +6,9 @@ use mathlib.Core.Bool.{Bool, true, false}
 use mathlib.Core.Path.{_≡_, refl, fun-ext}
 use mathlib.Core.List.{List, [], _∷_}
 use lib.ListN.{drop}
-use Rattle.scope.specs.Words.{if}
 use Rattle.scope.specs.Ram.{Program}
 use Rattle.scope.specs.Book.{Line, INC, DEC, GO-TO, CALL, REPEAT, Book, routine, used, Line-uses, by-CALL, by-REPEAT, Callees-below, said-below, from-the-lowest-up}
-use Rattle.scope.specs.Nested.{Opened-by, a-CALL, Place, come-to, enter-by, enter}
+use Rattle.scope.specs.Nested.{Opened-by, Place, come-to, enter-by, enter}
 use Rattle.scope.specs.Flattening.{line-length, sum-of, length-by, flat-length, copy-line, copy-lines, copy-by, copy, deepest, depth-by, depth}
 use Rattle.scope.specs.Quote.{some-line, in-or-under-by, in-or-under, line-steady, lines-steady, steady-by, line-quote, quote-by, quote}
 
@@ -89,7 +88,8 @@ unfolding some-line
 some-line-agrees such [] same = refl
 some-line-agrees such (l ∷ ls) same = rw (used-agrees false l (on-the-first same), some-line-agrees such ls (on-the-rest same)) refl
 
-line-steady-agrees : (bad : ℕ → ℕ → Bool) {f g : ℕ → Bool} (i : ℕ) (l : Line) → Agree-on f g l → line-steady bad f i l ≡ line-steady bad g i l
+line-steady-agrees :
+    (bad : ℕ → ℕ → Bool) {f g : ℕ → Bool} (i : ℕ) (l : Line) → Agree-on f g l → line-steady bad f i l ≡ line-steady bad g i l
 unfolding line-steady
 line-steady-agrees bad i (INC r) same = refl
 line-steady-agrees bad i (DEC r t) same = refl
@@ -119,7 +119,8 @@ copy-lines-agrees :
 unfolding copy-lines
 copy-lines-agrees book k b p [] same = refl
 copy-lines-agrees book k b p (l ∷ ls) same =
-    rw (copy-line-agrees book k b p l (on-the-first same), copy-lines-agrees book k b (p + line-length (flat-length book) l) ls (on-the-rest same)) refl
+    let next = p + line-length (flat-length book) l in
+    rw (copy-line-agrees book k b p l (on-the-first same), copy-lines-agrees book k b next ls (on-the-rest same)) refl
 
 come-to-agrees :
     {f g : ℕ → List Opened-by → Place → Place} (k i : ℕ) (ls : List Line) (around : List Opened-by) (after : Place) → Agree-on-all f g ls

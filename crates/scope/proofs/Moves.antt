@@ -2,7 +2,7 @@
 -- `settle` does at each line what the rule for that line says, and a routine enters lower ones only, so the moves come to an end.
 use Prim.Native.Nat.{ℕ, zero, suc, _<_}
 use native.Mathlib.Omega.{arith}
-use mathlib.Core.Path.{_≡_, refl, sym, _∙_}
+use mathlib.Core.Path.{_≡_, refl, _∙_}
 use mathlib.Core.List.{List, [], _∷_}
 use lib.ListN.{drop}
 use Rattle.scope.specs.Book.{Line, INC, DEC, GO-TO, CALL, REPEAT, Book, routine, by-CALL, Callees-below}
@@ -14,13 +14,20 @@ use Rattle.scope.proofs.FlatLines.{drop-tail}
 module _ (book : Book) (ok : Callees-below book) where
   -- ---- what `settle` gives, the moves lead to
 
+  -- From the end of routine c the moves lead to `after`.
+  abbrev From-the-end : ℕ → List Opened-by → Place → Type 0
+  From-the-end c around after = (j : ℕ) → drop j (routine book c) ≡ [] → Moves-to book c j around after
+
   -- The moves lead through routine c to `after`, if they lead there from its end.
   Leads-through : ℕ → Type 0
-  Leads-through c = (around : List Opened-by) (after : Place) → ((j : ℕ) → drop j (routine book c) ≡ [] → Moves-to book c j around after) → Moves-to book c 0 around (enter book c around after)
+  Leads-through c =
+      (around : List Opened-by) (after : Place) → From-the-end c around after → Moves-to book c 0 around (enter book c around after)
 
   come-to-moves :
-      (k : ℕ) → ((c : ℕ) → c < k → Leads-through c) → (i : ℕ) (ls : List Line) (around : List Opened-by) (after : Place) → drop i (routine book k) ≡ ls
-      → ((j : ℕ) → drop j (routine book k) ≡ [] → Moves-to book k j around after) → Moves-to book k i around (come-to (enter book) k i ls around after)
+      (k :
+      ℕ) → ((c : ℕ) → c < k
+      → Leads-through c) → (i : ℕ) (ls : List Line) (around : List Opened-by) (after : Place) → drop i (routine book k) ≡ ls
+      → From-the-end k around after → Moves-to book k i around (come-to (enter book) k i ls around after)
   unfolding come-to Leads-through Callees-below
   come-to-moves k through i [] around after e from-end = from-end i e
   come-to-moves k through i (INC r ∷ ls) around after e from-end = INC-is-a-step e
@@ -39,13 +46,18 @@ module _ (book : Book) (ok : Callees-below book) where
       rw (enter-by-the-rule book ok c)
       (come-to-moves c (λ d l. leads-through-below n d (omega arith)) 0 (routine book c) around after refl from-end)
 
-  come-to-is-moved-to : (k i : ℕ) (around : List Opened-by) (after : Place) → ((j : ℕ) → drop j (routine book k) ≡ [] → Moves-to book k j around after) → Moves-to book k i around (come-to (enter book) k i (drop i (routine book k)) around after)
-  come-to-is-moved-to k i around after from-end = come-to-moves k (λ c lt. leads-through-below k c lt) i (drop i (routine book k)) around after refl from-end
+  come-to-is-moved-to :
+      (k i : ℕ) (around : List Opened-by) (after : Place) → From-the-end k around after
+      → Moves-to book k i around (come-to (enter book) k i (drop i (routine book k)) around after)
+  come-to-is-moved-to k i around after from-end =
+      come-to-moves k (λ c lt. leads-through-below k c lt) i (drop i (routine book k)) around after refl from-end
 
-  leave-is-moved-to : (c : ℕ) (around : List Opened-by) (j : ℕ) → drop j (routine book c) ≡ [] → Moves-to book c j around (leave book c around)
+  leave-is-moved-to :
+      (c : ℕ) (around : List Opened-by) (j : ℕ) → drop j (routine book c) ≡ [] → Moves-to book c j around (leave book c around)
   unfolding leave
   leave-is-moved-to c [] j d = asked-is-at-its-end d
-  leave-is-moved-to c (a-CALL k i ∷ around) j d = CALL-goes-on d (come-to-is-moved-to k (suc i) around (leave book k around) (leave-is-moved-to k around))
+  leave-is-moved-to c (a-CALL k i ∷ around) j d =
+      CALL-goes-on d (come-to-is-moved-to k (suc i) around (leave book k around) (leave-is-moved-to k around))
   leave-is-moved-to c (a-REPEAT k i ∷ around) j d = REPEAT-goes-back d
 
   pub settle-is-moved-to : (k i : ℕ) (around : List Opened-by) → Moves-to book k i around (settle book k i around)
@@ -54,7 +66,9 @@ module _ (book : Book) (ok : Callees-below book) where
 
   -- ---- what the moves lead to, `settle` gives
 
-  settle-enters : {rest : List Line} {c : ℕ} (k i : ℕ) (around : List Opened-by) → drop i (routine book k) ≡ CALL c ∷ rest → settle book c 0 (a-CALL k i ∷ around) ≡ settle book k i around
+  settle-enters :
+      {rest : List Line} {c : ℕ} (k i : ℕ) (around : List Opened-by) → drop i (routine book k) ≡ CALL c ∷ rest
+      → settle book c 0 (a-CALL k i ∷ around) ≡ settle book k i around
   unfolding settle come-to enter-by leave
   settle-enters {rest} {c} k i around e = rw (e, drop-tail (routine book k) i e, enter-by-the-rule book ok c) refl
 
@@ -62,7 +76,8 @@ module _ (book : Book) (ok : Callees-below book) where
   unfolding settle come-to
   settle-leaves c j around d = rw d refl
 
-  pub moves-to-settle : {k i : ℕ} {around : List Opened-by} {place : Place} → Moves-to book k i around place → place ≡ settle book k i around
+  pub moves-to-settle :
+      {k i : ℕ} {around : List Opened-by} {place : Place} → Moves-to book k i around place → place ≡ settle book k i around
   unfolding settle come-to leave
   moves-to-settle (INC-is-a-step e) = rw e refl
   moves-to-settle (DEC-is-a-step e) = rw e refl

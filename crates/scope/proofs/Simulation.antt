@@ -10,9 +10,9 @@ use lib.Seq.{drop-length}
 use Rattle.scope.specs.Words.{_is_, if}
 use Rattle.scope.specs.Ram as ram
 use Rattle.scope.specs.Ram.{Program}
-use Rattle.scope.specs.Book.{Line, INC, DEC, GO-TO, CALL, REPEAT, Book, routine, Callees-below}
+use Rattle.scope.specs.Book.{Line, INC, DEC, GO-TO, Book, routine, Callees-below}
 use Rattle.scope.specs.Steps.{top, Registers, value, with-value, Next, at-the-end, before-full, goes-to, adds-one, takes-one-from, takes-one-off, Outcome, FINISHED, OUT-OF-STEPS, FULL, End, end, run-on, run-from}
-use Rattle.scope.specs.Nested.{Opened-by, a-CALL, a-REPEAT, Step, inc, dec, go-to, look, go-back, Place, ended, due, settle, nested-step, nested-next, nested-run}
+use Rattle.scope.specs.Nested.{Opened-by, a-CALL, a-REPEAT, Place, due, settle, nested-step, nested-next, nested-run}
 use Rattle.scope.specs.Flattening.{line-length, flat-length, start, copy-line, copy, flat-program}
 use Rattle.scope.specs.Running.{flat-step, flat-next, flat-run}
 use Rattle.scope.specs.Addresses.{begins, behind-its-start, address}
@@ -26,15 +26,21 @@ module _ (book : Book) (asked : ℕ) where
     both-before-full : {r : ℕ} → Same-next (before-full r) (before-full r)
     both-go : {p : ℕ} {place : Place} {rs : Registers} → Reached-at book asked place p → Same-next (goes-to p rs) (goes-to place rs)
 
-  both-add-one : {p : ℕ} {place : Place} (r : ℕ) (rs : Registers) → Reached-at book asked place p → Same-next (adds-one r rs p) (adds-one r rs place)
+  both-add-one :
+      {p : ℕ} {place : Place} (r : ℕ) (rs : Registers) → Reached-at book asked place p → Same-next (adds-one r rs p) (adds-one r rs place)
   unfolding adds-one if
   both-add-one {p} {place} r rs g = by-test (value rs r is top)
     where
-      by-test : (full : Bool) → Same-next (if full (before-full r) (goes-to p (with-value rs r (suc (value rs r))))) (if full (before-full r) (goes-to place (with-value rs r (suc (value rs r)))))
+      ss : Registers
+      ss = with-value rs r (suc (value rs r))
+
+      by-test : (full : Bool) → Same-next (if full (before-full r) (goes-to p ss)) (if full (before-full r) (goes-to place ss))
       by-test true = both-before-full
       by-test false = both-go g
 
-  both-take-one-off : {p q : ℕ} {on target : Place} (r : ℕ) (rs : Registers) → Reached-at book asked on p → Reached-at book asked target q → Same-next (takes-one-off r rs p q) (takes-one-off r rs on target)
+  both-take-one-off :
+      {p q : ℕ} {on target : Place} (r : ℕ) (rs : Registers) → Reached-at book asked on p → Reached-at book asked target q
+      → Same-next (takes-one-off r rs p q) (takes-one-off r rs on target)
   unfolding takes-one-off takes-one-from
   both-take-one-off {p} {q} {on} {target} r rs g h = by-value (value rs r)
     where
@@ -49,8 +55,11 @@ module _ (book : Book) (asked : ℕ) where
     pub same-registers : flat .registers ≡ nested .registers
     pub line-is-address : flat .place ≡ address book asked (nested .place)
 
-  same-end-here : (o : Outcome) (done p : ℕ) (rs : Registers) (place : Place) → Reached-at book asked place p → Same-end (end o done p rs) (end o done place rs)
-  same-end-here o done p rs place g = record { same-outcome = refl; same-steps = refl; same-registers = refl; line-is-address = sym (g .its-address) }
+  same-end-here :
+      (o : Outcome) (done p : ℕ) (rs : Registers) (place : Place) → Reached-at book asked place p
+      → Same-end (end o done p rs) (end o done place rs)
+  same-end-here o done p rs place g =
+      record { same-outcome = refl; same-steps = refl; same-registers = refl; line-is-address = sym (g .its-address) }
 
 module _ (book : Book) (ok : Callees-below book) (asked : ℕ) where
   -- the flat program of the asked routine, and what a REPEAT leaves at p over routine c
@@ -60,11 +69,13 @@ module _ (book : Book) (ok : Callees-below book) (asked : ℕ) where
   abbrev repeat : (p r c : ℕ) → Program
   repeat p r c = ram.DEC r (p + flat-length book c + 2) ∷ (copy book c (p + 1) ++ (ram.GO-TO p ∷ []))
 
-  repeated-copy-stands : {p q : ℕ} (r c : ℕ) → Stands flat p (repeat p r c) → q ≡ p + 1 → Stands flat q (copy book c (p + 1) ++ (ram.GO-TO p ∷ []))
+  repeated-copy-stands :
+      {p q : ℕ} (r c : ℕ) → Stands flat p (repeat p r c) → q ≡ p + 1 → Stands flat q (copy book c (p + 1) ++ (ram.GO-TO p ∷ []))
   repeated-copy-stands {p} {q} r c s e = rest-stands (ram.DEC r (p + flat-length book c + 2) ∷ []) (copy book c (p + 1) ++ (ram.GO-TO p ∷ [])) q s e
 
   -- The copy of an open routine stands where it begins.
-  copy-stands : {k : ℕ} {around : List Opened-by} → Is-open book asked k around → Stands flat (begins book around) (copy book k (begins book around))
+  copy-stands :
+      {k : ℕ} {around : List Opened-by} → Is-open book asked k around → Stands flat (begins book around) (copy book k (begins book around))
   unfolding begins flat-program copy-line
   copy-stands the-asked = record { behind = []; there = sym (append-nil (copy book asked 0)) }
   copy-stands {around = a-CALL k i ∷ around} (called e o) = line-stands book ok k i (copy-stands o) e refl
@@ -73,18 +84,28 @@ module _ (book : Book) (ok : Callees-below book) (asked : ℕ) where
       front-stands (copy book c (p + 1)) (ram.GO-TO p ∷ []) (repeated-copy-stands r c (line-stands book ok k i (copy-stands o) e refl) refl)
 
   -- What a line of an open routine left stands at its address.
-  left-stands : {k : ℕ} {around : List Opened-by} {l : Line} {rest : List Line} (i p : ℕ) → drop i (routine book k) ≡ l ∷ rest → Is-open book asked k around → p ≡ begins book around + start book k i → Stands flat p (copy-line book (copy book) k (begins book around) p l)
+  left-stands :
+      {k : ℕ} {around : List Opened-by} {l : Line} {rest : List Line} (i p : ℕ) → drop i (routine book k) ≡ l ∷ rest
+      → Is-open book asked k around → p ≡ begins book around + start book k i
+      → Stands flat p (copy-line book (copy book) k (begins book around) p l)
   left-stands {k} i p e o a = line-stands book ok k i (copy-stands o) e a
 
-  flat-next-there : {p : ℕ} (rs : Registers) (x : ram.Instruction) (xs : Program) (s : Stands flat p (x ∷ xs)) → flat-next flat p rs ≡ flat-step p (x ∷ (xs ++ s .behind)) rs
+  flat-next-there :
+      {p : ℕ} (rs : Registers) (x : ram.Instruction) (xs : Program) (s : Stands flat p (x ∷ xs))
+      → flat-next flat p rs ≡ flat-step p (x ∷ (xs ++ s .behind)) rs
   unfolding flat-next
   flat-next-there rs x xs s = rw (s .there) refl
 
   -- behind line i stands the next line, its length further on
-  goes-on : {k : ℕ} {around : List Opened-by} {l : Line} {rest : List Line} (i q : ℕ) → drop i (routine book k) ≡ l ∷ rest → Is-open book asked k around → q ≡ begins book around + start book k i + line-length (flat-length book) l → Reached-at book asked (settle book k (suc i) around) q
+  goes-on :
+      {k : ℕ} {around : List Opened-by} {l : Line} {rest : List Line} (i q : ℕ) → drop i (routine book k) ≡ l ∷ rest
+      → Is-open book asked k around → q ≡ begins book around + start book k i + line-length (flat-length book) l
+      → Reached-at book asked (settle book k (suc i) around) q
   goes-on {k} {around} {l} i q e o a = settle-keeps-address book ok asked k (suc i) around o (omega (arith, next-start book k i e))
 
-  same-next-at : {place : Place} (p : ℕ) (rs : Registers) → Reached book asked place → address book asked place ≡ p → Same-next book asked (flat-next flat p rs) (nested-next book place rs)
+  same-next-at :
+      {place : Place} (p : ℕ) (rs : Registers) → Reached book asked place → address book asked place ≡ p
+      → Same-next book asked (flat-next flat p rs) (nested-next book place rs)
   unfolding address behind-its-start nested-next nested-step copy-line flat-step line-length flat-next begins
   same-next-at p rs the-end a = rw (sym a ∙ sym (length-flat-program book asked), drop-length flat) both-at-the-end
   same-next-at {place = due d k i around} p rs (a-step e (does-inc {r = r}) o) a =
@@ -106,7 +127,9 @@ module _ (book : Book) (ok : Callees-below book) (asked : ℕ) where
       let t = rest-stands (copy book c (q + 1)) (ram.GO-TO q ∷ []) p s (omega (arith, length-copy book c (q + 1))) in
       rw (flat-next-there rs (ram.GO-TO q) [] t) (both-go (settle-keeps-address book ok asked k i around o refl))
 
-  same-end-on : (left done p : ℕ) (rs : Registers) (place : Place) {next : Next ℕ} {nested : Next Place} → Reached-at book asked place p → Same-next book asked next nested
+  same-end-on :
+      (left done p : ℕ) (rs : Registers) (place : Place) {next : Next ℕ} {nested : Next Place} → Reached-at book asked place p
+      → Same-next book asked next nested
       → Same-end book asked (run-on (flat-next flat) left done p rs next) (run-on (nested-next book) left done place rs nested)
   unfolding run-on
   same-end-on zero done p rs place g both-at-the-end = same-end-here book asked FINISHED done p rs place g
@@ -114,11 +137,13 @@ module _ (book : Book) (ok : Callees-below book) (asked : ℕ) where
   same-end-on zero done p rs place g (both-go h) = same-end-here book asked OUT-OF-STEPS done p rs place g
   same-end-on (suc left) done p rs place g both-at-the-end = same-end-here book asked FINISHED done p rs place g
   same-end-on (suc left) done p rs place g (both-before-full {r = r}) = same-end-here book asked (FULL r) done p rs place g
-  same-end-on (suc left) done p rs place g (both-go {p = p′} {place = place′} {rs = rs′} h) = same-end-on left (suc done) p′ rs′ place′ h (same-next-at p′ rs′ (h .reached) (h .its-address))
+  same-end-on (suc left) done p rs place g (both-go {p = p′} {place = place′} {rs = rs′} h) =
+      same-end-on left (suc done) p′ rs′ place′ h (same-next-at p′ rs′ (h .reached) (h .its-address))
 
   -- Demand 3: for every book whose callees lie below their callers, every routine, of any flat length, all registers, every budget.
   pub simulation : (budget : ℕ) (rs : Registers) → Same-end book asked (flat-run flat 0 budget rs) (nested-run book asked budget rs)
   unfolding flat-run nested-run run-from begins
   simulation budget rs =
-      let g : Reached-at book asked (settle book asked 0 []) 0 = settle-keeps-address book ok asked asked 0 [] the-asked (omega (arith, first-start book asked)) in
+      let g : Reached-at book asked (settle book asked 0 []) 0 =
+      settle-keeps-address book ok asked asked 0 [] the-asked (omega (arith, first-start book asked)) in
       same-end-on budget 0 0 rs (settle book asked 0 []) g (same-next-at 0 rs (g .reached) (g .its-address))

@@ -4,10 +4,12 @@ use Prim.Native.Nat.{ℕ, _<_, _≤_}
 use mathlib.Core.Bool.{true, false}
 use mathlib.Core.Path.{_≡_}
 use mathlib.Core.List.{List}
-use Rattle.scope.specs.Refusals.{DEPTH, NO-ROUTINE, TOO-LONG, NO-ROOM, NOT-FLAT, REGISTERS, LINE, NOT-STEADY, QUOTE, Refusal}
+use lib.ListN.{length}
+use Rattle.scope.specs.Refusals.{SHORT, LENGTH, DEPTH, NO-ROUTINE, TOO-LONG, NO-ROOM, NOT-FLAT, REGISTERS, LINE, NOT-STEADY, QUOTE, Refusal}
 use Rattle.scope.specs.Book.{routines, lines, count, Taken, book-of}
 use Rattle.scope.specs.Flattening.{flat-length, flat-book-bytes, most-flat-lines, most-open, depth}
 use Rattle.scope.specs.Quote.{steady, quote, most-quote}
+use Rattle.scope.specs.Shop.{trailer-length, book-read, routine-read, most-input}
 use Rattle.scope.specs.Given.{refusal, Given}
 
 -- Then: reading 12, 17; ..
@@ -65,3 +67,12 @@ pub data Given-bench (b : List ℕ) (line : ℕ) : Refusal → Type 0 where
   bench-NOT-FLAT : Taken b → 1 < routines b → Given-bench b line (refusal NOT-FLAT 0)
   -- | 17 | LINE | .. state's line above n .. |
   bench-LINE : Taken b → routines b ≤ 1 → lines b < line → Given-bench b line (refusal LINE 0)
+
+-- The shop's program. Under 74 bytes prints "REFUSED 1 0"; over 16,598 prints "REFUSED 5 0"; both before any other check. (14 to 17 do not
+-- come: it makes room for the flat book and runs it from line 0 with 32 registers.)
+pub data Given-in-the-shop (input : List ℕ) : Refusal → Type 0 where
+  shop-SHORT : length input < trailer-length → Given-in-the-shop input (refusal SHORT 0)
+  shop-LENGTH : trailer-length ≤ length input → most-input < length input → Given-in-the-shop input (refusal LENGTH 0)
+  shop-before :
+      {x : Refusal} → trailer-length ≤ length input → length input ≤ most-input → Given-to-flatten (book-read input) (routine-read input) x
+      → Given-in-the-shop input x

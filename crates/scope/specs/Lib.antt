@@ -35,3 +35,6 @@ pub mod Samples
 pub mod Addresses
 pub mod FlatBook
 pub mod Moves
+pub mod Enough
+pub mod Transitions
+pub mod Depth

@@ -1,6 +1,6 @@
 -- What the nested reading and the flat machine share: registers, what INC and DEC do to them, the outcomes, and the order of the three
 -- tests before a step. Document 01 has them under "Running"; "Nested reading" says "as under Running". Assumes nothing.
-use Prim.Native.Nat.{ℕ, zero, suc}
+use Prim.Native.Nat.{ℕ, zero, suc, _≤_}
 use mathlib.Core.List.{List}
 use lib.ListN.{getD, set}
 use Rattle.scope.specs.Words.{_is_, if}
@@ -22,6 +22,10 @@ value rs r = getD rs r 0
 
 unfoldable pub with-value : Registers → (register value : ℕ) → Registers
 with-value rs r v = set rs r v
+
+-- .. of 0 to 65,535
+unfoldable pub Values-within : Registers → Type 0
+Values-within rs = (j : ℕ) → value rs j ≤ top
 
 -- ---- one step
 

@@ -1,0 +1,136 @@
+-- The depth of a routine is that of its deepest chain of routines open inside one another. In a taken book it is at most 32.
+-- A chain goes down in number at each use, and of the routines used the deepest is one of them. Assumes nothing.
+use Prim.Native.Nat.{ℕ, zero, suc, _+_, _≤_, _<_, max}
+use mathlib.Core.Path.{_≡_, refl}
+use mathlib.Core.Logic.{_≢_}
+use mathlib.Core.List.{List, [], _∷_}
+use native.Mathlib.Omega.{arith}
+use native.Mathlib.Decide.{decLe}
+use lib.ListN.{drop}
+use Rattle.scope.specs.Book.{routines, Line, INC, DEC, GO-TO, CALL, REPEAT, Taken, Book, routine, book-of, used, Line-uses, by-CALL, by-REPEAT, Uses, Callees-below}
+use Rattle.scope.specs.Flattening.{most-open, deepest, depth-by, depth, flattens-verdict}
+use Rattle.scope.specs.Refusals.{DEPTH, number, Refusal, refuse}
+use Rattle.scope.specs.Given.{refusal, Given, gives-SHORT, gives-FORMAT, gives-COUNTS, gives-OFFSETS, gives-LENGTH, gives-ROUTINE, gives-ROUTINE-last, gives-KIND, gives-REGISTER, gives-TARGET, gives-CALLEE}
+use Rattle.scope.specs.GivenByCalls.{Given-to-flatten, to-flatten-the-book, to-flatten-NO-ROUTINE, to-flatten-DEPTH, to-flatten-TOO-LONG}
+use Rattle.scope.specs.Depth.{Opened, alone, around}
+use Rattle.scope.proofs.Lowest.{depth-by-the-rule}
+use Rattle.scope.proofs.GivenByCalls.{to-flatten-given-exactly-when}
+use Rattle.scope.proofs.TakenBook.{taken-book, taken-callees-below}
+
+-- ---- the deepest of the routines that some lines use
+
+used-is : (f : ℕ → ℕ) {l : Line} {c : ℕ} → Line-uses l c → used 0 f l ≡ f c
+unfolding used
+used-is f by-CALL = refl
+used-is f by-REPEAT = refl
+
+deepest-bounds : (f : ℕ → ℕ) (ls : List Line) (i : ℕ) {l : Line} {rest : List Line} {c : ℕ} → drop i ls ≡ l ∷ rest → Line-uses l c → f c ≤ deepest f ls
+unfolding deepest
+deepest-bounds f [] zero e u = let y : _≡_ {A = ℕ} 0 1 = cc in absurd (omega arith)
+deepest-bounds f [] (suc i) e u = let y : _≡_ {A = ℕ} 0 1 = cc in absurd (omega arith)
+deepest-bounds f (m ∷ ls) zero {l} e u =
+    let z : m ≡ l = cc in
+    rw z (omega (arith, used-is f u))
+deepest-bounds f (m ∷ ls) (suc i) e u = omega (arith, deepest-bounds f ls i e u)
+
+-- the lines use none with a number above 0, or one of those that they use has it
+data Deepest-is (f : ℕ → ℕ) (ls : List Line) (n : ℕ) : Type 0 where
+  none : n ≡ 0 → Deepest-is f ls n
+  some : (i : ℕ) {l : Line} {rest : List Line} {c : ℕ} → drop i ls ≡ l ∷ rest → Line-uses l c → n ≡ f c → Deepest-is f ls n
+
+module _ {f : ℕ → ℕ} {l : Line} {ls : List Line} where
+  by-the-rest : {n : ℕ} → Deepest-is f ls n → Deepest-is f (l ∷ ls) n
+  by-the-rest (none z) = none z
+  by-the-rest (some i e u z) = some (suc i) e u z
+
+  by-the-larger : {m n : ℕ} → Deepest-is f (l ∷ ls) m → Deepest-is f (l ∷ ls) n → Deepest-is f (l ∷ ls) (max m n)
+  by-the-larger {m} {n} x y = go (decLe m n)
+    where
+      go : Dec (m ≤ n) → Deepest-is f (l ∷ ls) (max m n)
+      go (yes h) = let z : max m n ≡ n = omega arith in rw z y
+      go (no h) = let z : max m n ≡ m = omega arith in rw z x
+
+by-the-first : (f : ℕ → ℕ) (l : Line) (ls : List Line) → Deepest-is f (l ∷ ls) (used 0 f l)
+unfolding used
+by-the-first f (INC r) ls = none refl
+by-the-first f (DEC r t) ls = none refl
+by-the-first f (GO-TO t) ls = none refl
+by-the-first f (CALL c) ls = some 0 refl by-CALL refl
+by-the-first f (REPEAT r c) ls = some 0 refl by-REPEAT refl
+
+deepest-is : (f : ℕ → ℕ) (ls : List Line) → Deepest-is f ls (deepest f ls)
+unfolding deepest
+deepest-is f [] = none refl
+deepest-is f (l ∷ ls) = by-the-larger (by-the-first f l ls) (by-the-rest (deepest-is f ls))
+
+-- ---- chains
+
+module _ (book : Book) (ok : Callees-below book) where
+  depth-is : (a : ℕ) → depth book a ≡ 1 + deepest (depth book) (routine book a)
+  unfolding depth-by
+  depth-is = depth-by-the-rule book ok
+
+  pub depth-bounds : {a n c : ℕ} → Opened book a n c → n ≤ depth book a
+  depth-bounds {a} alone = omega (arith, depth-is a)
+  depth-bounds {a} (around u o) =
+      omega (arith, depth-is a, depth-bounds o, deepest-bounds (depth book) (routine book a) (u .at-line) (u .stands) (u .line-uses))
+
+  reached-below : (bound a : ℕ) → a < bound → (c : ℕ) × Opened book a (depth book a) c
+  unfolding Callees-below
+  reached-below zero a h = absurd (omega arith)
+  reached-below (suc bound) a h = go (λ b. reached-below bound b) (deepest-is (depth book) (routine book a))
+    where
+      go :
+          ((b : ℕ) → b < bound → (c : ℕ) × Opened book b (depth book b) c)
+          → Deepest-is (depth book) (routine book a) (deepest (depth book) (routine book a)) → (c : ℕ) × Opened book a (depth book a) c
+      go below (none z) =
+          let e : depth book a ≡ 1 = omega (arith, depth-is a, z) in
+          (a, rw e alone)
+      go below (some i {l} {rest} {c = b} e u z) =
+          let uses : Uses book a b = record { at-line = i; line = l; rest = rest; stands = e; line-uses = u } in
+          let (c, o) = below b (omega (arith, ok a b uses)) in
+          let d : depth book a ≡ suc (depth book b) = omega (arith, depth-is a, z) in
+          (c, rw d (around uses o))
+
+  pub depth-reached : (a : ℕ) → (c : ℕ) × Opened book a (depth book a) c
+  depth-reached a = reached-below (suc a) a (omega arith)
+
+  pub opens-below : {a n c : ℕ} → Opened book a n c → n + c ≤ suc a
+  unfolding Callees-below
+  opens-below alone = omega arith
+  opens-below {a} (around {b} u o) = omega (arith, ok a b u, opens-below o)
+
+  pub depth-at-most : (a : ℕ) → depth book a ≤ suc a
+  depth-at-most a = omega (arith, opens-below (depth-reached a .1))
+
+-- ---- a taken book has at most 32 routines
+
+pub no-more-than-32-open : (b : List ℕ) → Taken b → (k : ℕ) → k < routines b → depth (book-of b) k ≤ most-open
+no-more-than-32-open b t k h = omega (arith, depth-at-most (book-of b) (taken-callees-below b t) k, taken-book b t .routines-to-32)
+
+-- What is given for a book is one of 1 to 10.
+of-the-book : {b : List ℕ} {x : Refusal} → Given b x → number (x .name) ≤ 10
+unfolding number
+of-the-book (gives-SHORT w) = omega arith
+of-the-book (gives-FORMAT p w) = omega arith
+of-the-book (gives-COUNTS p w) = omega arith
+of-the-book (gives-OFFSETS p w) = omega arith
+of-the-book (gives-LENGTH p w) = omega arith
+of-the-book (gives-ROUTINE r p h w) = omega arith
+of-the-book (gives-ROUTINE-last p w) = omega arith
+of-the-book (gives-KIND r j p w) = omega arith
+of-the-book (gives-REGISTER r j p w) = omega arith
+of-the-book (gives-TARGET r j p w) = omega arith
+of-the-book (gives-CALLEE r j p w) = omega arith
+
+not-11 : {b : List ℕ} {k : ℕ} {x : Refusal} → Given-to-flatten b k x → number (x .name) ≢ 11
+unfolding number
+not-11 (to-flatten-the-book g) e = omega (arith, of-the-book g, e)
+not-11 (to-flatten-NO-ROUTINE t h) e = omega (arith, e)
+not-11 {b} {k} (to-flatten-DEPTH t h d) e = omega (arith, no-more-than-32-open b t k h, d)
+not-11 (to-flatten-TOO-LONG t h d l) e = omega (arith, e)
+
+-- So 11 is never given: no book earns it.
+pub DEPTH-is-never-given : (b : List ℕ) (k place : ℕ) → flattens-verdict b k ≢ refuse (refusal DEPTH place)
+unfolding number
+DEPTH-is-never-given b k place e = not-11 (to-flatten-given-exactly-when b k (refusal DEPTH place) .0 e) refl

@@ -1,0 +1,146 @@
+-- A run ends exactly where the transitions of source document 000's machine lead, at the first reason to end, with the reason as outcome.
+-- Forth by the budget, a step a transition; back because transitions and reasons leave one end only. Assumes nothing.
+use Prim.Native.Nat.{ℕ, zero, suc, _+_, _≤_}
+use mathlib.Core.Path.{_≡_, refl, sym, ap, _∙_}
+use mathlib.Core.Logic.{_↔_, _≢_}
+use native.Mathlib.Omega.{arith}
+use lib.ListN.{length, getD}
+use lib.Seq.{ext-getD}
+use Rattle.scope.specs.Ram.{Program, Configuration, Final}
+use Rattle.scope.specs.Steps.{register-count, Registers, value, Next, Outcome, OUT-OF-STEPS, End, run-on, run-from}
+use Rattle.scope.specs.Running.{flat-next, flat-run}
+use Rattle.scope.specs.Transitions.{configuration, Our-program, Full, Leads, here, one-more, Reason, finished, out-of-steps, full, Run-ends}
+use Rattle.scope.proofs.Ram.{has-one, one-transition}
+use Rattle.scope.proofs.StepIsRam as step
+use Rattle.scope.proofs.StepIsRam.{value-there, full-not-final, Stepped, ends, goes, stepped}
+
+-- ---- a run ends so
+
+later : {P : Program} {budget s : ℕ} {c : Configuration} {o : Outcome} → Reason P budget s c o → Reason P (suc budget) (suc s) c o
+later (finished f) = finished f
+later (out-of-steps nf e) = out-of-steps nf (ap suc e)
+later (full nf n f) = full nf (λ e. n (omega (arith, e))) f
+
+-- `Run-ends` for the rest of a run, with `left` of its budget left and s steps done before
+record Rest-ends (P : Program) (beyond : ℕ → ℕ) (left s line : ℕ) (rs : Registers) (e : End ℕ) : Type 0 where
+  more : ℕ
+  steps-are : e .steps ≡ s + more
+  registers-again : length (e .registers) ≡ register-count
+  leads : Leads P more (configuration beyond line rs) (configuration beyond (e .place) (e .registers))
+  within : more ≤ left
+  reason : Reason P left more (configuration beyond (e .place) (e .registers)) (e .outcome)
+
+ends-here : {P : Program} {beyond : ℕ → ℕ} {left s line : ℕ} {rs : Registers} {o : Outcome} → length rs ≡ register-count → Reason P left 0 (configuration beyond line rs) o
+    → Rest-ends P beyond left s line rs (record { outcome = o; steps = s; place = line; registers = rs })
+ends-here len r = record { more = 0; steps-are = omega arith; registers-again = len; leads = here; within = omega arith; reason = r }
+
+module _ {P : Program} (ours : Our-program P) (beyond : ℕ → ℕ) where
+  rest-ends : (left s line : ℕ) (rs : Registers) {n : Next ℕ} → length rs ≡ register-count → Stepped P beyond line rs n
+      → Rest-ends P beyond left s line rs (run-on (flat-next P) left s line rs n)
+  unfolding run-on
+  rest-ends zero s line rs len (ends f) = ends-here len (finished f)
+  rest-ends zero s line rs len (step.full f) = ends-here len (out-of-steps (full-not-final f) refl)
+  rest-ends zero s line rs len (goes nf nu g len′ p w) = ends-here len (out-of-steps nf refl)
+  rest-ends (suc left) s line rs len (ends f) = ends-here len (finished f)
+  rest-ends (suc left) s line rs len (step.full f) = ends-here len (full (full-not-final f) (λ e. omega (arith, e)) f)
+  rest-ends (suc left) s line rs len (goes {p′} {rs′} nf nu g len′ p w) =
+      let r = rest-ends left (suc s) p′ rs′ len′ (stepped ours beyond p′ rs′ len′ p) in
+      record {
+        more = suc (r .more);
+        steps-are = omega (arith, r .steps-are);
+        registers-again = r .registers-again;
+        leads = one-more nf nu g (r .leads);
+        within = omega (arith, r .within);
+        reason = later (r .reason);
+      }
+
+  run-ends : (start budget : ℕ) (rs : Registers) → length rs ≡ register-count → start ≤ length P → Run-ends P beyond start rs budget (flat-run P start budget rs)
+  unfolding flat-run run-from
+  run-ends start budget rs len h =
+      let r = rest-ends budget 0 start rs len (stepped ours beyond start rs len h) in
+      let e : r .more ≡ flat-run P start budget rs .steps = omega (arith, r .steps-are) in
+      record { registers-again = r .registers-again; leads = rw e at (r .leads); within = rw e at (r .within); reason = rw e at (r .reason) }
+
+-- ---- it ends only so
+
+record Same-end (t t′ : ℕ) (d d′ : Configuration) (o o′ : Outcome) : Type 0 where
+  same-steps : t ≡ t′
+  same-place : d ≡ d′
+  same-outcome : o ≡ o′
+
+module _ {P : Program} {budget : ℕ} where
+  one-reason : {t t′ : ℕ} {c : Configuration} {o o′ : Outcome} → t ≡ t′ → Reason P budget t c o → Reason P budget t′ c o′ → o ≡ o′
+  one-reason e (finished f) (finished f′) = refl
+  one-reason e (finished f) (out-of-steps nf b) = absurd (nf f)
+  one-reason e (finished f) (full nf n u) = absurd (nf f)
+  one-reason e (out-of-steps nf b) (finished f) = absurd (nf f)
+  one-reason e (out-of-steps nf b) (out-of-steps nf′ b′) = refl
+  one-reason e (out-of-steps nf b) (full nf′ n u) = absurd (n (omega (arith, e, b)))
+  one-reason e (full nf n u) (finished f) = absurd (nf f)
+  one-reason e (full nf n u) (out-of-steps nf′ b) = absurd (n (omega (arith, e, b)))
+  one-reason e (full nf n u) (full nf′ n′ u′) = cc (has-one (u .before-INC) (u′ .before-INC))
+
+  -- where a step is done, only the budget could have been a reason to end
+  only-the-budget : {t : ℕ} {c : Configuration} {o : Outcome} → (Final P c → ⊥) → ((j : ℕ) → Full P c j → ⊥) → Reason P budget t c o → t ≡ budget
+  only-the-budget nf nu (finished f) = absurd (nf f)
+  only-the-budget nf nu (out-of-steps _ b) = b
+  only-the-budget nf nu (full {j} _ n u) = absurd (nu j u)
+
+  one-end : {t t′ s s′ : ℕ} {c d d′ : Configuration} {o o′ : Outcome} (before : ℕ) → Leads P s c d → Leads P s′ c d′
+      → t ≡ before + s → t′ ≡ before + s′ → t ≤ budget → t′ ≤ budget → Reason P budget t d o → Reason P budget t′ d′ o′ → Same-end t t′ d d′ o o′
+  one-end {t} {t′} before here here e e′ h h′ r r′ =
+      let z : t ≡ t′ = omega (arith, e, e′) in
+      record { same-steps = z; same-place = refl; same-outcome = one-reason z r r′ }
+  one-end before here (one-more nf nu g l) e e′ h h′ r r′ = absurd (omega (arith, only-the-budget nf nu r))
+  one-end before (one-more nf nu g l) here e e′ h h′ r r′ = absurd (omega (arith, only-the-budget nf nu r′))
+  one-end before (one-more nf nu g l) (one-more nf′ nu′ g′ l′) e e′ h h′ r r′ =
+      one-end (suc before) l (rw (one-transition g′ g) at l′) (omega (arith, e)) (omega (arith, e′)) h h′ r r′
+
+-- lists of our 32 registers that begin the same row are equal
+same-registers : (beyond : ℕ → ℕ) (rs ss : Registers) → length rs ≡ register-count → length ss ≡ register-count
+    → ((j : ℕ) → getD rs j (beyond j) ≡ getD ss j (beyond j)) → rs ≡ ss
+unfolding value
+same-registers beyond rs ss m n e =
+    ext-getD 0 rs ss (m ∙ sym n)
+    (λ j h. sym (value-there beyond rs j m (omega (arith, m))) ∙ e j ∙ value-there beyond ss j n (omega (arith, m)))
+
+module _ {P : Program} {beyond : ℕ → ℕ} {start budget : ℕ} {rs : Registers} where
+  run-ends-once : {e e′ : End ℕ} → Run-ends P beyond start rs budget e → Run-ends P beyond start rs budget e′ → e ≡ e′
+  unfolding configuration
+  run-ends-once {e} {e′} r r′ =
+      let s = one-end 0 (r .leads) (r′ .leads) (omega arith) (omega arith) (r .within) (r′ .within) (r .reason) (r′ .reason) in
+      let place-is : e .place ≡ e′ .place = ap (λ c. c .pc) (s .same-place) in
+      let registers-are : e .registers ≡ e′ .registers =
+      same-registers beyond (e .registers) (e′ .registers) (r .registers-again) (r′ .registers-again) (λ j. ap (λ c. c .registers j) (s .same-place)) in
+      λ i. record { outcome = s .same-outcome i; steps = s .same-steps i; place = place-is i; registers = registers-are i }
+
+-- ---- the laws
+
+pub run-exactly : {P : Program} → Our-program P → (beyond : ℕ → ℕ) (start budget : ℕ) (rs : Registers) (e : End ℕ) → length rs ≡ register-count → start ≤ length P
+    → (flat-run P start budget rs ≡ e) ↔ Run-ends P beyond start rs budget e
+run-exactly {P} ours beyond start budget rs e len h = (λ z. rw z at r, λ r′. run-ends-once r r′)
+  where
+    r : Run-ends P beyond start rs budget (flat-run P start budget rs)
+    r = run-ends ours beyond start budget rs len h
+
+-- A run that is not OUT OF STEPS ends the same way with every greater budget.
+pub more-budget : {P : Program} → Our-program P → (start budget budget′ : ℕ) (rs : Registers) (e : End ℕ) → length rs ≡ register-count → start ≤ length P
+    → flat-run P start budget rs ≡ e → e .outcome ≢ OUT-OF-STEPS → budget ≤ budget′ → flat-run P start budget′ rs ≡ e
+more-budget {P} ours start budget budget′ rs e len h z stopped le =
+    run-exactly ours beyond start budget′ rs e len h .1 (record {
+      registers-again = r .registers-again;
+      leads = r .leads;
+      within = omega (arith, r .within);
+      reason = still stopped (r .within) (r .reason);
+    })
+  where
+    beyond : ℕ → ℕ
+    beyond j = 0
+
+    r : Run-ends P beyond start rs budget e
+    r = run-exactly ours beyond start budget rs e len h .0 z
+
+    still : {s : ℕ} {c : Configuration} {o : Outcome} → o ≢ OUT-OF-STEPS → s ≤ budget → Reason P budget s c o → Reason P budget′ s c o
+    still n w (finished f) = finished f
+    still n w (out-of-steps nf b) = absurd (n refl)
+    still n w (full nf b f) = full nf (λ c. b (omega (arith, c))) f

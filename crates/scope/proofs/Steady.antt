@@ -1,0 +1,205 @@
+-- What steadiness gives: its lines are steady, its callees are, and what a routine does not raise, those under it do not raise either.
+-- A steady routine's register rule is a parameter; where less is wrong, more is steady, and what is raised is named.
+use Prim.Native.Nat.{ℕ, zero, suc, _+_}
+use native.Mathlib.Omega.{arith}
+use mathlib.Core.Bool.{Bool, true, false, not}
+use mathlib.Core.Path.{_≡_, refl, sym, _∙_}
+use mathlib.Core.List.{List, [], _∷_}
+use lib.ListN.{drop}
+use borrow.Author.Tests.{not-true}
+use Rattle.scope.specs.Words.{if, _and_, _or_}
+use Rattle.scope.specs.Book.{Line, INC, DEC, GO-TO, CALL, REPEAT, Book, routine, used, Callees-below, said-below, from-the-lowest-up}
+use Rattle.scope.specs.Quote.{names, some-line, in-or-under-by, in-or-under, named, line-steady, lines-steady, steady-by, steady}
+use Rattle.scope.specs.Enough.{raises, raised, steady-where-not-raised}
+use Rattle.scope.proofs.Lowest.{in-or-under-by-the-rule, steady-by-the-rule}
+
+-- ---- "and", "or"
+
+and-left : (s t : Bool) → s and t ≡ true → s ≡ true
+unfolding if
+and-left true t e = refl
+and-left false t e = e
+
+and-right : (s t : Bool) → s and t ≡ true → t ≡ true
+unfolding if
+and-right true t e = e
+and-right false t e = let y : _≡_ {A = ℕ} 0 1 = cc in absurd (omega arith)
+
+or-left-false : (s t : Bool) → s or t ≡ false → s ≡ false
+unfolding if
+or-left-false true t e = e
+or-left-false false t e = refl
+
+or-right-false : (s t : Bool) → s or t ≡ false → t ≡ false
+unfolding if
+or-right-false true t e = let y : _≡_ {A = ℕ} 0 1 = cc in absurd (omega arith)
+or-right-false false t e = e
+
+-- where more holds of the parts, more holds of the whole
+and-more : (s t s′ t′ : Bool) → (s ≡ true → s′ ≡ true) → (t ≡ true → t′ ≡ true) → s and t ≡ true → s′ and t′ ≡ true
+unfolding if
+and-more s t s′ t′ f g e = rw (f (and-left s t e), g (and-right s t e)) refl
+
+or-more : (s t s′ t′ : Bool) → (s ≡ true → s′ ≡ true) → (t ≡ true → t′ ≡ true) → s or t ≡ true → s′ or t′ ≡ true
+unfolding if
+or-more true t s′ t′ f g e = rw (f refl) refl
+or-more false t true t′ f g e = refl
+or-more false t false t′ f g e = g e
+
+not-more : (s t : Bool) → (t ≡ true → s ≡ true) → not s ≡ true → not t ≡ true
+not-more s true f e = let h : s ≡ true = f refl in rw h at e
+not-more s false f e = refl
+
+-- ---- of each line
+
+-- A routine is steady if its lines are.
+line-of-steady-lines :
+    (bad : ℕ → ℕ → Bool) (f : ℕ → Bool) {l : Line} {rest : List Line} (n i q : ℕ) (ls : List Line) → lines-steady bad f n ls ≡ true
+    → drop i ls ≡ l ∷ rest → q ≡ n + i → line-steady bad f q l ≡ true
+unfolding lines-steady
+line-of-steady-lines bad f n zero q [] s e a = let y : _≡_ {A = ℕ} 0 1 = cc in absurd (omega arith)
+line-of-steady-lines bad f n (suc i) q [] s e a = let y : _≡_ {A = ℕ} 0 1 = cc in absurd (omega arith)
+line-of-steady-lines bad f {l} n zero q (x ∷ ls) s e a =
+    let z : x ≡ l = cc in
+    let w : q ≡ n = omega arith in
+    rw (w, sym z) (and-left (line-steady bad f n x) (lines-steady bad f (suc n) ls) s)
+line-of-steady-lines bad f n (suc i) q (x ∷ ls) s e a =
+    line-of-steady-lines bad f (suc n) i q ls (and-right (line-steady bad f n x) (lines-steady bad f (suc n) ls) s) e (omega arith)
+
+-- Where no line is such, none is by itself, and none uses a routine that has one in it or under it.
+no-line-is-such :
+    (such : Line → Bool) (f : ℕ → Bool) {l : Line} {rest : List Line} (i : ℕ) (ls : List Line) → some-line such f ls ≡ false
+    → drop i ls ≡ l ∷ rest → such l or used false f l ≡ false
+unfolding some-line if
+no-line-is-such such f zero [] n e = let y : _≡_ {A = ℕ} 0 1 = cc in absurd (omega arith)
+no-line-is-such such f (suc i) [] n e = let y : _≡_ {A = ℕ} 0 1 = cc in absurd (omega arith)
+no-line-is-such such f {l} zero (x ∷ ls) n e =
+    let z : x ≡ l = cc in
+    let a = or-left-false (such x) (used false f x or some-line such f ls) n in
+    let b = or-left-false (used false f x) (some-line such f ls) (or-right-false (such x) (used false f x or some-line such f ls) n) in
+    rw (sym z, a) b
+no-line-is-such such f (suc i) (x ∷ ls) n e =
+    no-line-is-such such f i ls
+    (or-right-false (used false f x) (some-line such f ls) (or-right-false (such x) (used false f x or some-line such f ls) n)) e
+
+-- ---- more is steady where less is wrong
+
+some-line-more :
+    (such such′ : Line → Bool) (f f′ : ℕ → Bool) → ((l : Line) → such l ≡ true → such′ l ≡ true) → ((c : ℕ) → f c ≡ true → f′ c ≡ true)
+    → (ls : List Line) → some-line such f ls ≡ true → some-line such′ f′ ls ≡ true
+unfolding some-line used
+some-line-more such such′ f f′ m n [] e = e
+some-line-more such such′ f f′ m n (l ∷ ls) e =
+    or-more (such l) (used false f l or some-line such f ls) (such′ l) (used false f′ l or some-line such′ f′ ls) (m l)
+    (or-more (used false f l) (some-line such f ls) (used false f′ l) (some-line such′ f′ ls) (used-more l)
+    (some-line-more such such′ f f′ m n ls)) e
+  where
+    used-more : (l : Line) → used false f l ≡ true → used false f′ l ≡ true
+    used-more (INC r) h = h
+    used-more (DEC r t) h = h
+    used-more (GO-TO t) h = h
+    used-more (CALL c) h = n c h
+    used-more (REPEAT r c) h = n c h
+
+line-steady-more :
+    (bad bad′ : ℕ → ℕ → Bool) (f f′ : ℕ → Bool) → ((j c : ℕ) → bad′ j c ≡ true → bad j c ≡ true) → ((c : ℕ) → f c ≡ true → f′ c ≡ true)
+    → (i : ℕ) (l : Line) → line-steady bad f i l ≡ true → line-steady bad′ f′ i l ≡ true
+unfolding line-steady
+line-steady-more bad bad′ f f′ less m i (INC r) e = e
+line-steady-more bad bad′ f f′ less m i (DEC r t) e = e
+line-steady-more bad bad′ f f′ less m i (GO-TO t) e = e
+line-steady-more bad bad′ f f′ less m i (CALL c) e = m c e
+line-steady-more bad bad′ f f′ less m i (REPEAT r c) e =
+    and-more (f c) (not (bad r c)) (f′ c) (not (bad′ r c)) (m c) (not-more (bad r c) (bad′ r c) (less r c)) e
+
+lines-steady-more :
+    (bad bad′ : ℕ → ℕ → Bool) (f f′ : ℕ → Bool) → ((j c : ℕ) → bad′ j c ≡ true → bad j c ≡ true) → ((c : ℕ) → f c ≡ true → f′ c ≡ true)
+    → (i : ℕ) (ls : List Line) → lines-steady bad f i ls ≡ true → lines-steady bad′ f′ i ls ≡ true
+unfolding lines-steady
+lines-steady-more bad bad′ f f′ less m i [] e = e
+lines-steady-more bad bad′ f f′ less m i (l ∷ ls) e =
+    and-more (line-steady bad f i l) (lines-steady bad f (suc i) ls) (line-steady bad′ f′ i l) (lines-steady bad′ f′ (suc i) ls)
+    (line-steady-more bad bad′ f f′ less m i l) (lines-steady-more bad bad′ f f′ less m (suc i) ls) e
+
+module _ (book : Book) where
+  in-or-under-more :
+      (such such′ : Line → Bool) → ((l : Line) → such l ≡ true → such′ l ≡ true)
+      → (n k : ℕ) → said-below false (in-or-under-by book such) n k ≡ true → said-below false (in-or-under-by book such′) n k ≡ true
+  unfolding said-below in-or-under-by
+  in-or-under-more such such′ m zero k e = e
+  in-or-under-more such such′ m (suc n) k e =
+      some-line-more such such′ (said-below false (in-or-under-by book such) n) (said-below false (in-or-under-by book such′) n) m
+      (in-or-under-more such such′ m n) (routine book k) e
+
+  steady-more :
+      (bad bad′ : ℕ → ℕ → Bool) → ((j c : ℕ) → bad′ j c ≡ true → bad j c ≡ true)
+      → (n k : ℕ) → said-below true (steady-by book bad) n k ≡ true → said-below true (steady-by book bad′) n k ≡ true
+  unfolding said-below steady-by
+  steady-more bad bad′ less zero k e = e
+  steady-more bad bad′ less (suc n) k e =
+      lines-steady-more bad bad′ (said-below true (steady-by book bad) n) (said-below true (steady-by book bad′) n) less
+      (steady-more bad bad′ less n) 0 (routine book k) e
+
+  raises-names : (j : ℕ) (l : Line) → raises j l ≡ true → names j l ≡ true
+  unfolding raises names
+  raises-names j (INC r) e = e
+  raises-names j (DEC r t) e = let y : _≡_ {A = ℕ} 0 1 = cc in absurd (omega arith)
+  raises-names j (GO-TO t) e = e
+  raises-names j (CALL c) e = e
+  raises-names j (REPEAT r c) e = let y : _≡_ {A = ℕ} 0 1 = cc in absurd (omega arith)
+
+  raised-is-named : (j k : ℕ) → raised book j k ≡ true → named book j k ≡ true
+  unfolding raised named in-or-under from-the-lowest-up
+  raised-is-named j k e = in-or-under-more (raises j) (names j) (raises-names j) (suc k) k e
+
+  -- Document 01's steady routines are among those of the wider class.
+  pub steady-is-steady-where-not-raised : (k : ℕ) → steady book k ≡ true → steady-where-not-raised book k ≡ true
+  unfolding steady steady-where-not-raised from-the-lowest-up
+  steady-is-steady-where-not-raised k e = steady-more (named book) (raised book) raised-is-named (suc k) k e
+
+-- ---- of the lines of a routine, for every book whose callees lie below their callers
+
+module _ (book : Book) (ok : Callees-below book) where
+  pub line-is-steady :
+      {l : Line} {rest : List Line} (k i : ℕ) → steady-where-not-raised book k ≡ true → drop i (routine book k) ≡ l ∷ rest
+      → line-steady (raised book) (steady-where-not-raised book) i l ≡ true
+  unfolding steady-where-not-raised steady-by
+  line-is-steady k i s e =
+      line-of-steady-lines (raised book) (steady-where-not-raised book) 0 i i (routine book k)
+      (sym (steady-by-the-rule book ok (raised book) k) ∙ s) e (omega arith)
+
+  -- .. and a line that calls is steady if the routine is. A REPEAT line also needs that its register is not raised there.
+  pub called-is-steady :
+      {c : ℕ} {rest : List Line} (k i : ℕ) → steady-where-not-raised book k ≡ true → drop i (routine book k) ≡ CALL c ∷ rest
+      → steady-where-not-raised book c ≡ true
+  unfolding line-steady
+  called-is-steady k i s e = line-is-steady k i s e
+
+  pub repeated-is-steady :
+      {r c : ℕ} {rest : List Line} (k i : ℕ) → steady-where-not-raised book k ≡ true → drop i (routine book k) ≡ REPEAT r c ∷ rest
+      → steady-where-not-raised book c ≡ true
+  unfolding line-steady
+  repeated-is-steady {r} {c} k i s e = and-left (steady-where-not-raised book c) (not (raised book r c)) (line-is-steady k i s e)
+
+  pub repeat-is-not-raised :
+      {r c : ℕ} {rest : List Line} (k i : ℕ) → steady-where-not-raised book k ≡ true → drop i (routine book k) ≡ REPEAT r c ∷ rest
+      → raised book r c ≡ false
+  unfolding line-steady
+  repeat-is-not-raised {r} {c} k i s e =
+      not-true (raised book r c) (and-right (steady-where-not-raised book c) (not (raised book r c)) (line-is-steady k i s e))
+
+  raised-nowhere :
+      {l : Line} {rest : List Line} (j k i : ℕ) → raised book j k ≡ false → drop i (routine book k) ≡ l ∷ rest
+      → raises j l or used false (raised book j) l ≡ false
+  unfolding raised in-or-under-by
+  raised-nowhere j k i n e =
+      no-line-is-such (raises j) (raised book j) i (routine book k) (sym (in-or-under-by-the-rule book ok (raises j) k) ∙ n) e
+
+  pub not-raised-here :
+      {l : Line} {rest : List Line} (j k i : ℕ) → raised book j k ≡ false → drop i (routine book k) ≡ l ∷ rest → raises j l ≡ false
+  not-raised-here {l} j k i n e = or-left-false (raises j l) (used false (raised book j) l) (raised-nowhere j k i n e)
+
+  pub not-raised-below :
+      {l : Line} {rest : List Line} (j k i : ℕ) → raised book j k ≡ false → drop i (routine book k) ≡ l ∷ rest
+      → used false (raised book j) l ≡ false
+  not-raised-below {l} j k i n e = or-right-false (raises j l) (used false (raised book j) l) (raised-nowhere j k i n e)

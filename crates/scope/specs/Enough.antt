@@ -1,0 +1,35 @@
+-- The words of the law that the quote is enough: ending by itself, and a class of routines wider than the steady ones, for which it holds
+-- too: a REPEAT's register may be named in or under the repeated routine, if only no INC there raises it. Assumes nothing.
+use Prim.Native.Nat.{ℕ, _≤_}
+use mathlib.Core.Bool.{Bool, true, false}
+use Rattle.scope.specs.Words.{_is_}
+use Rattle.scope.specs.Book.{Line, INC, DEC, GO-TO, CALL, REPEAT, Book, from-the-lowest-up}
+use Rattle.scope.specs.Steps.{Outcome, FINISHED, FULL, End}
+use Rattle.scope.specs.Quote.{in-or-under, steady-by}
+
+-- INC raises its register, and no other line does.
+unfoldable pub raises : (register : ℕ) → Line → Bool
+raises j (INC r) = r is j
+raises j (DEC r t) = false
+raises j (GO-TO t) = false
+raises j (CALL c) = false
+raises j (REPEAT r c) = false
+
+module _ (book : Book) where
+  -- raised by INC in routine k or in any routine used under it
+  unfoldable pub raised : (register k : ℕ) → Bool
+  raised j = in-or-under book (raises j)
+
+  -- steady, but that a REPEAT line needs only that its register is not raised in or under the repeated routine
+  unfoldable pub steady-where-not-raised : ℕ → Bool
+  steady-where-not-raised = from-the-lowest-up true (steady-by book raised)
+
+-- A run ended FINISHED or FULL: by itself, and not for want of steps.
+pub data By-itself : Outcome → Type 0 where
+  finished : By-itself FINISHED
+  full : {r : ℕ} → By-itself (FULL r)
+
+-- It ended by itself, after at most so many steps.
+pub record Ends-within {P : Type 0} (most : ℕ) (e : End P) : Type 0 where
+  pub by-itself : By-itself (e .outcome)
+  pub within : e .steps ≤ most
