@@ -9,7 +9,9 @@ use Rattle.scope.specs.Ram as ram
 use Rattle.scope.specs.Ram.{Instruction, Program, Has, has, Target-within, Targets-within}
 use Rattle.scope.specs.Book.{routines, Line, Book, routine, Callees-below, Taken, book-of}
 use Rattle.scope.specs.Flattening.{line-length, sum-of, length-by, flat-length, start, copy-line, copy-lines, copy-by, copy, flat-program, flat-book, most-flat-lines}
-use Rattle.scope.specs.FlatBook.{Register-within, Registers-within, Fits-a-book, Says, Bytes}
+use Rattle.scope.specs.FlatBook.{Fits-a-book, Says, Bytes}
+use Rattle.scope.specs.Transitions.{Register-within, Registers-within}
+use Rattle.scope.specs.Steps.{register-count}
 use Rattle.scope.proofs.Lowest.{flat-length-by-the-rule, copy-by-the-rule}
 use Rattle.scope.proofs.FlatLines.{length-flat-program}
 use Rattle.scope.proofs.TakenBook.{Line-fits, INC-fits, DEC-fits, GO-TO-fits, CALL-fits, REPEAT-fits, taken-lines-fit, taken-callees-below}
@@ -19,7 +21,7 @@ use Rattle.scope.proofs.WrittenBook.{written-says-it, writing-after-rea
 -- ---- instructions that fit a program of n lines
 
 record Fits (n : ℕ) (x : Instruction) : Type 0 where
-  register-right : Register-within x
+  register-right : Register-within register-count x
   target-right : Target-within n x
 
 data All-fit (n : ℕ) : Program → Type 0 where
@@ -64,14 +66,14 @@ module _ (book : Book) (ok : Callees-below book)
   line-fits : (k a p n m : ℕ) {l : Line} → Line-fits k m l → Copies-below-fit k n → a + flat-length book k ≤ n
       → p + line-length (flat-length book) l ≤ n → All-fit n (copy-line book (copy book) k a p l)
   unfolding copy-line line-length Register-within Target-within
-  line-fits k a p n m (INC-fits r) below h g = one-more (record { register-right = r; target-right = tt }) none
-  line-fits k a p n m (DEC-fits {t} r _) below h g =
-      one-more {x = ram.DEC _ (a + start book k t)} (record { register-right = r; target-right = omega (arith, start-within k t) }) none
+  line-fits k a p n m (INC-fits {r} small) below h g = one-more {x = ram.INC r} (record { register-right = omega arith; target-right = tt }) none
+  line-fits k a p n m (DEC-fits {r} {t} small _) below h g =
+      one-more {x = ram.DEC r (a + start book k t)} (record { register-right = omega arith; target-right = omega (arith, start-within k t) }) none
   line-fits k a p n m (GO-TO-fits {t} _) below h g =
       one-more {x = ram.GO-TO (a + start book k t)} (record { register-right = tt; target-right = omega (arith, start-within k t) }) none
   line-fits k a p n m (CALL-fits {c} lower) below h g = below c p lower g
-  line-fits k a p n m (REPEAT-fits {c} r lower) below h g =
-      one-more {x = ram.DEC _ (p + flat-length book c + 2)} (record { register-right = r; target-right = omega arith })
+  line-fits k a p n m (REPEAT-fits {r} {c} small lower) below h g =
+      one-more {x = ram.DEC r (p + flat-length book c + 2)} (record { register-right = omega arith; target-right = omega arith })
       (both-fit (below c (p + 1) lower (omega arith))
       (one-more {x = ram.GO-TO p} (record { register-right = tt; target-right = omega arith }) none))
 
@@ -109,8 +111,10 @@ module _ (b : List ℕ) (t : Taken b) (k : ℕ) where
       copy-fits (book-of b) (taken-callees-below b t) (λ k j l rest. taken-lines-fit b t k j) (suc k) k 0 (length P) (omega arith)
       (omega (arith, long)) in
       record {
-        targets-within = λ p x s. stands p x all s .target-right;
-        registers-within = λ p x s. stands p x all s .register-right;
+        ours = record {
+          registers-within = λ p x s. stands p x all s .register-right;
+          targets-within = λ p x s. stands p x all s .target-right;
+        };
         not-too-long = rw long h;
       }
 

@@ -1,6 +1,6 @@
 -- A taken book with one routine says the same as a program and as a book: each line is INC, DEC or GO TO, and flattening changes nothing.
 -- Its routine has none below it to use; each line has length 1, so a target starts at its own number. Assumes nothing.
-use Prim.Native.Nat.{ℕ, zero, suc, _+_, _<_, _≤_}
+use Prim.Native.Nat.{ℕ, zero, suc, _+_, _≤_}
 use native.Mathlib.Omega.{arith}
 use mathlib.Core.Path.{_≡_, refl, sym, _∙_, ap}
 use mathlib.Core.Logic.{inl, inr}
@@ -13,10 +13,10 @@ use Rattle.scope.specs.Book.{INC-kind, DEC-kind, GO-TO-kind, routines, l
 use Rattle.scope.specs.Flattening.{line-length, sum-of, flat-length, start, copy-line, copy-lines, copy-by, copy, flat-program, as-line}
 use Rattle.scope.specs.Running.{instruction-of, program-of}
 use Rattle.scope.specs.Given.{Zero-stands, Has-callee}
-use Rattle.scope.specs.FlatBook.{Register-within, Registers-within, Fits-a-book}
 use Rattle.scope.proofs.Verdicts.{is-tells, either-way}
-use Rattle.scope.proofs.Listed.{length-listed, listed-member, listed-map}
-use Rattle.scope.proofs.TakenBook.{Taken-line, taken-book, Line-fits, INC-fits, DEC-fits, GO-TO-fits, taken-line-fits}
+use Rattle.scope.proofs.Listed.{listed-map}
+use Rattle.scope.proofs.TakenProgram.{line-of-the-book, taken-program}
+use Rattle.scope.proofs.TakenBook.{Taken-line, taken-book}
 
 -- ---- one line
 
@@ -53,18 +53,6 @@ fields-again f n t =
 line-as-instruction : (f : Line-fields) (n : ℕ) → Taken-line f 0 n → line-of f ≡ as-line (instruction-of f)
 line-as-instruction f n t = ap line-of (sym (fields-again f n t)) ∙ line-again (as-line (instruction-of f))
 
-register-fits : (x : Instruction) (n : ℕ) → Line-fits 0 n (as-line x) → Register-within x
-unfolding as-line Register-within
-register-fits (ram.INC j) n (INC-fits r) = r
-register-fits (ram.DEC j l) n (DEC-fits r t) = r
-register-fits (ram.GO-TO l) n (GO-TO-fits t) = tt
-
-target-fits : (x : Instruction) (n : ℕ) → Line-fits 0 n (as-line x) → Target-within n x
-unfolding as-line Target-within
-target-fits (ram.INC j) n (INC-fits r) = tt
-target-fits (ram.DEC j l) n (DEC-fits r t) = t
-target-fits (ram.GO-TO l) n (GO-TO-fits t) = t
-
 -- ---- the whole book
 
 module _ (b : List ℕ) (t : Taken b) (one : routines b ≡ 1) where
@@ -76,38 +64,12 @@ module _ (b : List ℕ) (t : Taken b) (one : routines b ≡ 1) where
   unfolding first-line-due
   counts-all = omega (arith, starts-at-0, (rw one at (taken-book b t .last-ends-at-L)))
 
-  pub line-of-the-routine : (i : ℕ) → i < lines b → Taken-line (fields-at b i) 0 (lines b)
-  unfolding fields-in line-number
-  line-of-the-routine i h =
-      let same : first-line b 0 + i ≡ i = omega (arith, starts-at-0) in
-      rw (same, counts-all) at (taken-book b t .lines-right 0 i (omega arith) (omega (arith, counts-all)))
-
   pub one-routine-book : book-of b ≡ map as-line (program-of b) ∷ []
   unfolding book-of routine-of program-of listed fields-in line-number
   one-routine-book =
       rw (one, counts-all) (ap (λ ls. ls ∷ []) (listed-map as-line _ _ 0 (lines b) (λ k h.
       let same : first-line b 0 + k ≡ k = omega (arith, starts-at-0) in
-      rw same (line-as-instruction (fields-at b k) (lines b) (line-of-the-routine k (omega arith))))))
-
-  pub length-program-of : length (program-of b) ≡ lines b
-  unfolding program-of
-  length-program-of = length-listed _ 0 (lines b)
-
-  instruction-stands : (p : ℕ) (x : Instruction) → Has (program-of b) p x → Line-fits 0 (lines b) (as-line x)
-  unfolding program-of
-  instruction-stands p x (has e) =
-      let m = listed-member (λ i. instruction-of (fields-at b i)) 0 (lines b) p p e (omega arith) in
-      let l = line-of-the-routine p (m .0) in
-      rw (m .1, sym (line-as-instruction (fields-at b p) (lines b) l)) (taken-line-fits (fields-at b p) 0 (lines b) l)
-
-  pub its-program-fits : Fits-a-book (program-of b)
-  unfolding Targets-within Registers-within
-  its-program-fits =
-      record {
-        targets-within = λ p x h. target-fits x (length (program-of b)) (rw length-program-of (instruction-stands p x h));
-        registers-within = λ p x h. register-fits x (lines b) (instruction-stands p x h);
-        not-too-long = rw length-program-of (taken-book b t .lines-to-4096);
-      }
+      rw same (line-as-instruction (fields-at b k) (lines b) (line-of-the-book b t one k (omega arith))))))
 
 -- ---- flattening it changes nothing
 
@@ -147,4 +109,4 @@ flat-program-of-a-program P h =
 -- Flattening routine 0 of a book with one routine gives the program that it says.
 pub flattening-changes-nothing : (b : List ℕ) → Taken b → routines b ≡ 1 → flat-program (book-of b) 0 ≡ program-of b
 flattening-changes-nothing b t one =
-    rw (one-routine-book b t one) (flat-program-of-a-program (program-of b) (its-program-fits b t one .targets-within))
+    rw (one-routine-book b t one) (flat-program-of-a-program (program-of b) (taken-program b t one .targets-within))

@@ -156,7 +156,7 @@ pub data Line-fits (k n : ℕ) : Line → Type 0 where
   CALL-fits : {c : ℕ} → c < k → Line-fits k n (CALL c)
   REPEAT-fits : {r c : ℕ} → r ≤ last-register → c < k → Line-fits k n (REPEAT r c)
 
-pub taken-line-fits : (f : Line-fields) (k n : ℕ) → Taken-line f k n → Line-fits k n (line-of f)
+taken-line-fits : (f : Line-fields) (k n : ℕ) → Taken-line f k n → Line-fits k n (line-of f)
 unfolding line-of Has-target Has-callee
 taken-line-fits f k n t =
     either-way (Line-fits k n) (is-tells (f .kind) INC-kind) (λ i. INC-fits (t .register-to-31)) λ n1.

@@ -52,7 +52,7 @@ fits f n t =
     no-REPEAT e = omega (arith, t .callee-below (inr e))
 
 module _ (b : List ℕ) (taken : Taken b) (flat : routines b ≡ 1) where
-  line-of-the-book : (p : ℕ) → p < lines b → Taken-line (fields-at b p) 0 (lines b)
+  pub line-of-the-book : (p : ℕ) → p < lines b → Taken-line (fields-at b p) 0 (lines b)
   unfolding first-line-due fields-in line-number
   line-of-the-book p h =
       let k = taken-book b taken in

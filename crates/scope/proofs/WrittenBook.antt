@@ -14,12 +14,15 @@ use Rattle.scope.specs.Ram.{Instruction, Program, has, Target-within, Ta
 use Rattle.scope.specs.Book.{the-format, most-lines, header-bytes, byte, two-byte, two-bytes, two-bytes-each, format, routines, lines, routine-table, line-table, stated-length, line-table-due, length-due, first-line, count, first-line-due, INC, DEC, GO-TO, fields-of, line-offset, fields-at, line-number, fields-in, Taken}
 use Rattle.scope.specs.Flattening.{bytes-of-fields, as-line, bytes-of-program, flat-book, flat-book-bytes}
 use Rattle.scope.specs.Given.{Short, Wrong-format, Wrong-counts, Wrong-offsets, Wrong-length, Wrong-entry, Wrong-end, Wrong-kind, Zero-stands, Wrong-register, Has-target, Wrong-target, Has-callee, Wrong-callee, Good-line, Good-in, Good-book}
-use Rattle.scope.specs.FlatBook.{Register-within, Registers-within, Fits-a-book, Says, Bytes}
+use Rattle.scope.specs.FlatBook.{Fits-a-book, Says, Bytes}
+use Rattle.scope.specs.Transitions.{Register-within, Registers-within}
+use Rattle.scope.specs.Steps.{register-count}
 use Rattle.scope.specs.Running.{instruction-of, program-of}
 use Rattle.scope.proofs.Listed.{listed-is}
 use Rattle.scope.proofs.GivenExactlyWhen.{taken-exactly-when}
 use Rattle.scope.proofs.TakenBook.{taken-book}
-use Rattle.scope.proofs.OneRoutine.{same-fields, fields-again, starts-at-0, counts-all, line-of-the-routine, one-routine-book, length-program-of}
+use Rattle.scope.proofs.TakenProgram.{length-program-of, line-of-the-book}
+use Rattle.scope.proofs.OneRoutine.{same-fields, fields-again, starts-at-0, counts-all, one-routine-book}
 
 -- ---- the header
 
@@ -108,7 +111,7 @@ instruction-again (ram.GO-TO t) = refl
 
 -- ---- the book that is written
 
-written-line-is-good : (x : Instruction) (n : ℕ) → Register-within x → Target-within n x → Good-line (fields-of (as-line x)) 0 n
+written-line-is-good : (x : Instruction) (n : ℕ) → Register-within register-count x → Target-within n x → Good-line (fields-of (as-line x)) 0 n
 unfolding Register-within Target-within fields-of as-line Wrong-kind Wrong-register Zero-stands Wrong-target Has-target Wrong-callee Has-callee
 written-line-is-good (ram.INC j) n r t =
     record {
@@ -147,7 +150,7 @@ module _ (P : Program) (fits : Fits-a-book P) where
   unfolding Targets-within
   read-at i {x} e =
       let short = fits .not-too-long in
-      fields-written P i short e (small-operand x (length P) short (fits .targets-within i x (has e)))
+      fields-written P i short e (small-operand x (length P) short (fits .ours .targets-within i x (has e)))
 
   written-line : (j : ℕ) → j < count (flat-book P) 0 → Good-in (flat-book P) 0 j
   unfolding Good-in fields-in line-number Targets-within Registers-within
@@ -157,7 +160,7 @@ module _ (P : Program) (fits : Fits-a-book P) where
       let e = drop-cons P j (ram.INC 0) (omega (arith, f .count-n)) in
       let same : line-number (flat-book P) 0 j ≡ j = omega (arith, f .first-line-0) in
       rw (same, read-at j e, f .count-n)
-      (written-line-is-good x (length P) (fits .registers-within j x (has e)) (fits .targets-within j x (has e)))
+      (written-line-is-good x (length P) (fits .ours .registers-within j x (has e)) (fits .ours .targets-within j x (has e)))
 
   written-is-good : Good-book (flat-book P)
   unfolding Short Wrong-format Wrong-counts Wrong-offsets Wrong-length Wrong-entry Wrong-end first-line-due length-due line-table-due flat-book-bytes
@@ -251,7 +254,7 @@ module _ (b : List ℕ) (bytes : Bytes b) where
         let operand : q + 2 ≡ suc (suc q) = omega arith in
         let rest = lines-stand n (suc i) (q + 4) (omega arith) (omega arith) in
         let two = two-bytes-stand (suc (suc q)) (q + 4) (omega arith) (omega (arith, its-length)) in
-        rw (fields-again (fields-at b i) (lines b) (line-of-the-routine b t one i (omega arith)), offset, next, operand)
+        rw (fields-again (fields-at b i) (lines b) (line-of-the-book b t one i (omega arith)), offset, next, operand)
         (drop-cons b q 0 (omega (arith, its-length))
         ∙ ap (λ xs. byte b q ∷ xs) (drop-cons b (suc q) 0 (omega (arith, its-length)))
         ∙ ap (λ xs. byte b q ∷ byte b (suc q) ∷ xs) two
@@ -274,7 +277,7 @@ module _ (b : List ℕ) (bytes : Bytes b) where
     pub writing-after-reading : flat-book (program-of b) ≡ b
     unfolding flat-book two-bytes-each two-bytes program-of numbers-in-front
     writing-after-reading =
-        rw (length-program-of b t one)
+        rw (length-program-of b)
         (sym (numbers-stand 8 0 0 16 refl refl (omega (arith, its-length))
         ∙ ap (λ ns. two-bytes-each ns ++ drop 16 b) they-stand-in-front
         ∙ ap (λ xs. two-bytes-each (numbers-in-front (lines b)) ++ xs) (lines-stand (lines b) 0 16 (omega arith) refl)))
