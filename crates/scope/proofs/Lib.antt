@@ -31,3 +31,4 @@ pub mod Depth
 pub mod OneRoutine
 pub mod WrittenBook
 pub mod FlatBook
+pub mod Flattened
