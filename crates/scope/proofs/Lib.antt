@@ -32,3 +32,4 @@ pub mod Depth
 pub mod OneRoutine
 pub mod WrittenBook
 pub mod FlatBook
+pub mod Flattened

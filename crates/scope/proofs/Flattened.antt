@@ -1,0 +1,36 @@
+-- Demand 3 on bytes: for every taken book and every routine of it that flattens, its flat book can be run and ends as the nested reading says.
+-- The flat book is taken and says the flat program, and a taken book's callees lie below their callers. Assumes nothing.
+use Prim.Native.Nat.{ℕ, _≤_}
+use mathlib.Core.Bool.{true}
+use mathlib.Core.Path.{_≡_}
+use mathlib.Core.List.{List}
+use Rattle.scope.specs.Book.{book-of}
+use Rattle.scope.specs.Steps.{Registers, Values-within}
+use Rattle.scope.specs.Nested.{nested-run}
+use Rattle.scope.specs.Flattening.{flat-program, flat-book}
+use Rattle.scope.specs.Running.{flat-run, program-of}
+use Rattle.scope.specs.Quote.{steady, quote}
+use Rattle.scope.specs.Enough.{Ends-within}
+use Rattle.scope.specs.GivenByCalls.{Flattens}
+use Rattle.scope.proofs.TakenBook.{taken-callees-below}
+use Rattle.scope.proofs.Simulation.{Same-end, simulation}
+use Rattle.scope.proofs.QuoteEnough.{quote-enough}
+use Rattle.scope.proofs.FlatBook.{flat-book-is-taken}
+
+module _ (b : List ℕ) (k : ℕ) (flattens : Flattens b k) where
+  -- the program that the bytes of the flat book say
+  its-program : program-of (flat-book (flat-program (book-of b) k)) ≡ flat-program (book-of b) k
+  its-program = flat-book-is-taken b (flattens .taken) k (flattens .not-too-long) .its-program
+
+  -- The flat run of it from line 0 ends as the nested reading says: same outcome, steps and registers, and at the address of its place.
+  pub flattened-runs-as-nested :
+      (budget : ℕ) (rs : Registers)
+      → Same-end (book-of b) k (flat-run (program-of (flat-book (flat-program (book-of b) k))) 0 budget rs) (nested-run (book-of b) k budget rs)
+  flattened-runs-as-nested budget rs = rw its-program (simulation (book-of b) (taken-callees-below b (flattens .taken)) k budget rs)
+
+  -- If the routine is steady, a budget of at least the quote is enough.
+  pub flattened-quote-is-enough :
+      steady (book-of b) k ≡ true → (budget : ℕ) (rs : Registers) → Values-within rs → quote (book-of b) k ≤ budget
+      → Ends-within (quote (book-of b) k) (flat-run (program-of (flat-book (flat-program (book-of b) k))) 0 budget rs)
+  flattened-quote-is-enough s budget rs low h =
+      rw its-program (quote-enough (book-of b) (taken-callees-below b (flattens .taken)) k budget rs s low h .flat)
