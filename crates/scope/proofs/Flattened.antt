@@ -4,14 +4,20 @@ use Prim.Native.Nat.{ℕ, _≤_}
 use mathlib.Core.Bool.{true}
 use mathlib.Core.Path.{_≡_}
 use mathlib.Core.List.{List}
+use native.Mathlib.Omega.{arith}
+use lib.ListN.{length}
+use Rattle.scope.specs.Words.{_is-not_}
+use Rattle.scope.specs.Refusals.{pass}
 use Rattle.scope.specs.Book.{book-of}
-use Rattle.scope.specs.Steps.{Registers, Values-within}
+use Rattle.scope.specs.Steps.{register-count, Registers, Values-within}
 use Rattle.scope.specs.Nested.{nested-run}
 use Rattle.scope.specs.Flattening.{flat-program, flat-book}
-use Rattle.scope.specs.Running.{flat-run, program-of}
+use Rattle.scope.specs.Running.{flat-run, program-of, run-verdict}
 use Rattle.scope.specs.Quote.{steady, quote}
 use Rattle.scope.specs.Enough.{Ends-within}
 use Rattle.scope.specs.GivenByCalls.{Flattens}
+use Rattle.scope.proofs.Verdicts.{no-fault, is-not-tells}
+use Rattle.scope.proofs.GivenByCalls.{running-passes}
 use Rattle.scope.proofs.TakenBook.{taken-callees-below}
 use Rattle.scope.proofs.Simulation.{Same-end, simulation}
 use Rattle.scope.proofs.QuoteEnough.{quote-enough}
@@ -22,7 +28,16 @@ module _ (b : List ℕ) (k : ℕ) (flattens : Flattens b k) where
   its-program : program-of (flat-book (flat-program (book-of b) k)) ≡ flat-program (book-of b) k
   its-program = flat-book-is-taken b (flattens .taken) k (flattens .not-too-long) .its-program
 
-  -- The flat run of it from line 0 ends as the nested reading says: same outcome, steps and registers, and at the address of its place.
+  -- It is not refused, ..
+  pub flattened-can-be-run :
+      (rs : Registers) → length rs ≡ register-count
+      → run-verdict (flat-book (flat-program (book-of b) k)) (length rs is-not register-count) 0 ≡ pass
+  flattened-can-be-run rs len =
+      let says = flat-book-is-taken b (flattens .taken) k (flattens .not-too-long) in
+      running-passes (flat-book (flat-program (book-of b) k)) 0 (no-fault (is-not-tells (length rs) register-count)) (says .taken)
+      (omega (arith, says .one-routine)) (λ n. n len) (omega arith)
+
+  -- .. and the flat run of it from line 0 ends as the nested reading says: same outcome, steps and registers, and at the address of its place.
   pub flattened-runs-as-nested :
       (budget : ℕ) (rs : Registers)
       → Same-end (book-of b) k (flat-run (program-of (flat-book (flat-program (book-of b) k))) 0 budget rs) (nested-run (book-of b) k budget rs)

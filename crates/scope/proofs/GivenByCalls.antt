@@ -189,6 +189,11 @@ module _ (b : List ℕ) {not-32 : Bool} {Not-32 : Type 0} (start : ℕ) (i : Tel
   running-refuses x (running-LINE t h n l) =
       then-goes-on _ t ∙ goes-on _ _ (not-flat-tells b) h ∙ goes-on _ _ i n ∙ refuses _ _ (past-the-end-tells b start) l
 
+  pub running-passes : Taken b → routines b ≤ 1 → ¬ Not-32 → start ≤ lines b → run-verdict b not-32 start ≡ pass
+  unfolding run-verdict
+  running-passes t h n l =
+      then-goes-on _ t ∙ goes-on _ _ (not-flat-tells b) h ∙ goes-on _ _ i n ∙ goes-on _ _ (past-the-end-tells b start) l
+
   -- for every test that tells whether the lent registers are not 32, ..
   pub running-given-exactly-when : (x : Refusal) → (run-verdict b not-32 start ≡ refuse x) ↔ Given-running b Not-32 start x
   running-given-exactly-when x = (running-gives x, running-refuses x)

@@ -2,7 +2,8 @@
 -- `settle` does at each line what the rule for that line says, and a routine enters lower ones only, so the moves come to an end.
 use Prim.Native.Nat.{ℕ, zero, suc, _<_}
 use native.Mathlib.Omega.{arith}
-use mathlib.Core.Path.{_≡_, refl, _∙_}
+use mathlib.Core.Path.{_≡_, refl, _∙_, subst⁻¹}
+use mathlib.Core.Logic.{_↔_}
 use mathlib.Core.List.{List, [], _∷_}
 use lib.ListN.{drop}
 use Rattle.scope.specs.Book.{Line, INC, DEC, GO-TO, CALL, REPEAT, Book, routine, by-CALL, Callees-below}
@@ -76,7 +77,7 @@ module _ (book : Book) (ok : Callees-below book) where
   unfolding settle come-to
   settle-leaves c j around d = rw d refl
 
-  pub moves-to-settle :
+  moves-to-settle :
       {k i : ℕ} {around : List Opened-by} {place : Place} → Moves-to book k i around place → place ≡ settle book k i around
   unfolding settle come-to leave
   moves-to-settle (INC-is-a-step e) = rw e refl
@@ -87,3 +88,8 @@ module _ (book : Book) (ok : Callees-below book) where
   moves-to-settle {k = c} {i = j} {around = a-CALL k i ∷ around} (CALL-goes-on d m) = moves-to-settle m ∙ settle-leaves c j (a-CALL k i ∷ around) d
   moves-to-settle {k = c} {i = j} {around = a-REPEAT k i ∷ around} (REPEAT-goes-back d) = settle-leaves c j (a-REPEAT k i ∷ around) d
   moves-to-settle {k = k} {i = i} (asked-is-at-its-end d) = settle-leaves k i [] d
+
+  -- So the relation and the function give the same place.
+  pub moves-exactly :
+      (k i : ℕ) (around : List Opened-by) (place : Place) → Moves-to book k i around place ↔ (place ≡ settle book k i around)
+  moves-exactly k i around place = (moves-to-settle, λ e. subst⁻¹ (Moves-to book k i around) e (settle-is-moved-to k i around))

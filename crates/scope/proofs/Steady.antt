@@ -11,34 +11,21 @@ use Rattle.scope.specs.Words.{if, _and_, _or_}
 use Rattle.scope.specs.Book.{Line, INC, DEC, GO-TO, CALL, REPEAT, Book, routine, used, Callees-below, said-below, from-the-lowest-up}
 use Rattle.scope.specs.Quote.{names, some-line, in-or-under-by, in-or-under, named, line-steady, lines-steady, steady-by, steady}
 use Rattle.scope.specs.Enough.{raises, raised, steady-where-not-raised}
+use Rattle.scope.proofs.Verdicts.{itself-tells, or-tells, and-tells}
 use Rattle.scope.proofs.Lowest.{in-or-under-by-the-rule, steady-by-the-rule}
 
 -- ---- "and", "or"
 
-and-left : (s t : Bool) → s and t ≡ true → s ≡ true
-unfolding if
-and-left true t e = refl
-and-left false t e = e
+both-true : (s t : Bool) → s and t ≡ true → (s ≡ true) × (t ≡ true)
+both-true s t = and-tells (itself-tells s) (itself-tells t) .when-true .0
 
-and-right : (s t : Bool) → s and t ≡ true → t ≡ true
-unfolding if
-and-right true t e = e
-and-right false t e = let y : _≡_ {A = ℕ} 0 1 = cc in absurd (omega arith)
-
-or-left-false : (s t : Bool) → s or t ≡ false → s ≡ false
-unfolding if
-or-left-false true t e = e
-or-left-false false t e = refl
-
-or-right-false : (s t : Bool) → s or t ≡ false → t ≡ false
-unfolding if
-or-right-false true t e = let y : _≡_ {A = ℕ} 0 1 = cc in absurd (omega arith)
-or-right-false false t e = e
+both-false : (s t : Bool) → s or t ≡ false → (s ≡ false) × (t ≡ false)
+both-false s t = or-tells (itself-tells s) (itself-tells t) .when-false .0
 
 -- where more holds of the parts, more holds of the whole
 and-more : (s t s′ t′ : Bool) → (s ≡ true → s′ ≡ true) → (t ≡ true → t′ ≡ true) → s and t ≡ true → s′ and t′ ≡ true
 unfolding if
-and-more s t s′ t′ f g e = rw (f (and-left s t e), g (and-right s t e)) refl
+and-more s t s′ t′ f g e = rw (f (both-true s t e .0), g (both-true s t e .1)) refl
 
 or-more : (s t s′ t′ : Bool) → (s ≡ true → s′ ≡ true) → (t ≡ true → t′ ≡ true) → s or t ≡ true → s′ or t′ ≡ true
 unfolding if
@@ -62,9 +49,9 @@ line-of-steady-lines bad f n (suc i) q [] s e a = let y : _≡_ {A = ℕ} 0 1 = 
 line-of-steady-lines bad f {l} n zero q (x ∷ ls) s e a =
     let z : x ≡ l = cc in
     let w : q ≡ n = omega arith in
-    rw (w, sym z) (and-left (line-steady bad f n x) (lines-steady bad f (suc n) ls) s)
+    rw (w, sym z) (both-true (line-steady bad f n x) (lines-steady bad f (suc n) ls) s .0)
 line-of-steady-lines bad f n (suc i) q (x ∷ ls) s e a =
-    line-of-steady-lines bad f (suc n) i q ls (and-right (line-steady bad f n x) (lines-steady bad f (suc n) ls) s) e (omega arith)
+    line-of-steady-lines bad f (suc n) i q ls (both-true (line-steady bad f n x) (lines-steady bad f (suc n) ls) s .1) e (omega arith)
 
 -- Where no line is such, none is by itself, and none uses a routine that has one in it or under it.
 no-line-is-such :
@@ -75,12 +62,11 @@ no-line-is-such such f zero [] n e = let y : _≡_ {A = ℕ} 0 1 = cc in absurd 
 no-line-is-such such f (suc i) [] n e = let y : _≡_ {A = ℕ} 0 1 = cc in absurd (omega arith)
 no-line-is-such such f {l} zero (x ∷ ls) n e =
     let z : x ≡ l = cc in
-    let a = or-left-false (such x) (used false f x or some-line such f ls) n in
-    let b = or-left-false (used false f x) (some-line such f ls) (or-right-false (such x) (used false f x or some-line such f ls) n) in
-    rw (sym z, a) b
+    let none = both-false (such x) (used false f x or some-line such f ls) n in
+    rw (sym z, none .0) (both-false (used false f x) (some-line such f ls) (none .1) .0)
 no-line-is-such such f (suc i) (x ∷ ls) n e =
-    no-line-is-such such f i ls
-    (or-right-false (used false f x) (some-line such f ls) (or-right-false (such x) (used false f x or some-line such f ls) n)) e
+    let none = both-false (such x) (used false f x or some-line such f ls) n in
+    no-line-is-such such f i ls (both-false (used false f x) (some-line such f ls) (none .1) .1) e
 
 -- ---- more is steady where less is wrong
 
@@ -179,14 +165,14 @@ module _ (book : Book) (ok : Callees-below book) where
       {r c : ℕ} {rest : List Line} (k i : ℕ) → steady-where-not-raised book k ≡ true → drop i (routine book k) ≡ REPEAT r c ∷ rest
       → steady-where-not-raised book c ≡ true
   unfolding line-steady
-  repeated-is-steady {r} {c} k i s e = and-left (steady-where-not-raised book c) (not (raised book r c)) (line-is-steady k i s e)
+  repeated-is-steady {r} {c} k i s e = both-true (steady-where-not-raised book c) (not (raised book r c)) (line-is-steady k i s e) .0
 
   pub repeat-is-not-raised :
       {r c : ℕ} {rest : List Line} (k i : ℕ) → steady-where-not-raised book k ≡ true → drop i (routine book k) ≡ REPEAT r c ∷ rest
       → raised book r c ≡ false
   unfolding line-steady
   repeat-is-not-raised {r} {c} k i s e =
-      not-true (raised book r c) (and-right (steady-where-not-raised book c) (not (raised book r c)) (line-is-steady k i s e))
+      not-true (raised book r c) (both-true (steady-where-not-raised book c) (not (raised book r c)) (line-is-steady k i s e) .1)
 
   raised-nowhere :
       {l : Line} {rest : List Line} (j k i : ℕ) → raised book j k ≡ false → drop i (routine book k) ≡ l ∷ rest
@@ -197,9 +183,9 @@ module _ (book : Book) (ok : Callees-below book) where
 
   pub not-raised-here :
       {l : Line} {rest : List Line} (j k i : ℕ) → raised book j k ≡ false → drop i (routine book k) ≡ l ∷ rest → raises j l ≡ false
-  not-raised-here {l} j k i n e = or-left-false (raises j l) (used false (raised book j) l) (raised-nowhere j k i n e)
+  not-raised-here {l} j k i n e = both-false (raises j l) (used false (raised book j) l) (raised-nowhere j k i n e) .0
 
   pub not-raised-below :
       {l : Line} {rest : List Line} (j k i : ℕ) → raised book j k ≡ false → drop i (routine book k) ≡ l ∷ rest
       → used false (raised book j) l ≡ false
-  not-raised-below {l} j k i n e = or-right-false (raises j l) (used false (raised book j) l) (raised-nowhere j k i n e)
+  not-raised-below {l} j k i n e = both-false (raises j l) (used false (raised book j) l) (raised-nowhere j k i n e) .1

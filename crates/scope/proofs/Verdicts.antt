@@ -7,7 +7,7 @@ use mathlib.Core.Path.{_≡_, refl, sym, _∙_, ap, subst}
 use mathlib.Core.Logic.{_↔_, _≢_, _⊎_, inl, inr, ⊎-elim}
 use borrow.Author.Tests.{ltb-true, ltb-false, leb-true, leb-false, eqb-true, eqb-false, lt-ltb, le-ltb, le-leb, lt-leb, eq-eqb, ne-eqb}
 use Rattle.scope.specs.Words.{_is_, _is-not_, _above_, _below_, _not-below_, if, _or_, _and_}
-use Rattle.scope.specs.Refusals.{Refusal, Verdict, pass, refuse, _and-then_, first}
+use Rattle.scope.specs.Refusals.{Refusal, Verdict, pass, refuse, _and-then_, first, refused, accepted, answer-of, left-of, call-of}
 
 -- ---- if
 
@@ -128,6 +128,11 @@ pass-is-no-refusal e =
     let y : _≡_ {A = ℕ} 0 1 = cc in
     omega arith
 
+accepted-is-not-refused : {A : Type 0} {values : A} {x : Refusal} → accepted values ≡ refused x → ⊥
+accepted-is-not-refused e =
+    let y : _≡_ {A = ℕ} 0 1 = cc in
+    omega arith
+
 -- A test that finds its fault gives its refusal, ..
 pub refuses : {t : Bool} {P Q : Type 0} (a b : Verdict) → Tells t P Q → P → if t a b ≡ a
 refuses a b i p = if-true _ a b (i .when-true .1 p)
@@ -226,3 +231,17 @@ first-hit t (suc n) k h f e =
 pub first-refuses : (t : ℕ → Verdict) (n : ℕ) (x : Refusal) → (first t n ≡ refuse x) ↔ First-refusal t n x
 first-refuses t n x =
     (first-found t n, λ h. first-hit t n (h .at) (h .within) (all-pass t (h .at) (h .all-before-pass)) (h .is-refused))
+
+-- ---- what a call answers, and leaves in what it was lent
+
+pub refused-exactly-when : {A : Type 0} (v : Verdict) (values : A) (x : Refusal) → (answer-of v values ≡ refused x) ↔ (v ≡ refuse x)
+unfolding answer-of
+refused-exactly-when pass values x = (λ e. absurd (accepted-is-not-refused e), λ e. absurd (pass-is-no-refusal e))
+refused-exactly-when (refuse y) values x = (λ e. cc, λ e. cc)
+
+-- Nothing is written and no step is counted.
+pub refusal-writes-nothing :
+    {A L : Type 0} {v : Verdict} {x : Refusal} (values : A) (written lent : L) → v ≡ refuse x
+    → call-of v values written lent ≡ record { answer = refused x; left = lent }
+unfolding call-of answer-of left-of
+refusal-writes-nothing values written lent e = rw e
