@@ -24,7 +24,8 @@ unfolding used
 used-is f by-CALL = refl
 used-is f by-REPEAT = refl
 
-deepest-bounds : (f : ℕ → ℕ) (ls : List Line) (i : ℕ) {l : Line} {rest : List Line} {c : ℕ} → drop i ls ≡ l ∷ rest → Line-uses l c → f c ≤ deepest f ls
+deepest-bounds :
+    (f : ℕ → ℕ) (ls : List Line) (i : ℕ) {l : Line} {rest : List Line} {c : ℕ} → drop i ls ≡ l ∷ rest → Line-uses l c → f c ≤ deepest f ls
 unfolding deepest
 deepest-bounds f [] zero e u = let y : _≡_ {A = ℕ} 0 1 = cc in absurd (omega arith)
 deepest-bounds f [] (suc i) e u = let y : _≡_ {A = ℕ} 0 1 = cc in absurd (omega arith)

@@ -59,7 +59,8 @@ reading-given-exactly-when b r j x = (reading-gives b r j x, reading-refuses b r
 -- ---- what flattening and the quote share
 
 -- 11 DEPTH: more than 32 routines open inside one another
-depth-tells : (b : List ℕ) (k : ℕ) → Tells (depth (book-of b) k above most-open) (most-open < depth (book-of b) k) (depth (book-of b) k ≤ most-open)
+depth-tells :
+    (b : List ℕ) (k : ℕ) → Tells (depth (book-of b) k above most-open) (most-open < depth (book-of b) k) (depth (book-of b) k ≤ most-open)
 depth-tells b k = above-tells (depth (book-of b) k) most-open
 
 -- 13 TOO LONG: flat length above 4,096
@@ -130,7 +131,8 @@ unfolding flatten-verdict
 flattening-refuses b k room x (flattening-before g) = then-refuses _ (to-flatten-refuses b k x g)
 flattening-refuses b k room x (flattening-NO-ROOM f h) = then-goes-on _ (none-refuses b k f) ∙ refuses _ _ (no-room-tells b k room) h
 
-pub flattening-given-exactly-when : (b : List ℕ) (k room : ℕ) (x : Refusal) → (flatten-verdict b k room ≡ refuse x) ↔ Given-flattening b k room x
+pub flattening-given-exactly-when :
+    (b : List ℕ) (k room : ℕ) (x : Refusal) → (flatten-verdict b k room ≡ refuse x) ↔ Given-flattening b k room x
 flattening-given-exactly-when b k room x = (flattening-gives b k room x, flattening-refuses b k room x)
 
 -- ---- the quote
@@ -140,7 +142,9 @@ not-steady-tells : (b : List ℕ) (k : ℕ) → Tells (not (steady (book-of b) k
 not-steady-tells b k = not-tells (itself-tells (steady (book-of b) k))
 
 -- 19 QUOTE: quote above 2^64-1
-quote-tells : (b : List ℕ) (k : ℕ) → Tells (quote (book-of b) k above most-quote) (most-quote < quote (book-of b) k) (quote (book-of b) k ≤ most-quote)
+quote-tells :
+    (b : List ℕ) (k : ℕ)
+    → Tells (quote (book-of b) k above most-quote) (most-quote < quote (book-of b) k) (quote (book-of b) k ≤ most-quote)
 quote-tells b k = above-tells (quote (book-of b) k) most-quote
 
 quote-gives : (b : List ℕ) (k : ℕ) (x : Refusal) → quote-verdict b k ≡ refuse x → Given-quote b k x

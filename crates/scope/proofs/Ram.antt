@@ -66,7 +66,8 @@ unfolding after after-DEC Final All-registers-stay Other-registers-stay
 is-after {P} {c} (final f l r) =
     let e : drop (c .pc) P ≡ [] = drop-of-length-le P {i = c .pc} (omega (arith, f)) in
     rw e (same-configuration l r)
-is-after {P} {c} {d} (rule-1 {j} (has h) v l r) = rw h (same-configuration l (with-register-is (c .registers) (d .registers) j (c .registers j + 1) v r))
+is-after {P} {c} {d} (rule-1 {j} (has h) v l r) =
+    rw h (same-configuration l (with-register-is (c .registers) (d .registers) j (c .registers j + 1) v r))
 is-after {P} {c} {d} (rule-2 {j} {l = t} (has h) v l r) =
     let w : c .registers j ≡ suc (d .registers j) = omega (arith, v) in
     rw (h, w) (same-configuration l (with-register-is (c .registers) (d .registers) j (d .registers j) refl r))
@@ -82,18 +83,22 @@ some-transition P c h = (after (drop (c .pc) P) c, go (drop (c .pc) P) refl)
   where
     take-off : (v j l : ℕ) → c .registers j ≡ v → Has P (c .pc) (DEC j l) → Goes-to P c (after-DEC v j l c)
     take-off zero j l e i = rule-3 i e refl (λ k. refl)
-    take-off (suc v) j l e i = rule-2 i (rw (with-register-there (c .registers) j v) (omega (arith, e))) refl (with-register-elsewhere (c .registers) j v)
+    take-off (suc v) j l e i =
+        rule-2 i (rw (with-register-there (c .registers) j v) (omega (arith, e))) refl (with-register-elsewhere (c .registers) j v)
 
     go : (xs : Program) → drop (c .pc) P ≡ xs → Goes-to P c (after xs c)
     go [] e =
         let z : 0 ≡ length P - c .pc = rw e at (length-drop (c .pc) P) in
         final (omega (arith, z)) refl (λ k. refl)
-    go (INC j ∷ xs) e = rule-1 (has e) (with-register-there (c .registers) j (c .registers j + 1)) refl (with-register-elsewhere (c .registers) j (c .registers j + 1))
+    go (INC j ∷ xs) e =
+        rule-1 (has e) (with-register-there (c .registers) j (c .registers j + 1)) refl (with-register-elsewhere (c .registers) j (c .registers j + 1))
     go (DEC j l ∷ xs) e = take-off (c .registers j) j l refl (has e)
     go (GO-TO l ∷ xs) e = rule-4 (has e) refl (λ k. refl)
 
 -- what rule 1 says, whichever rule is said to have been used
-pub INC-adds : {P : Program} {c d : Configuration} {j : ℕ} → Has P (c .pc) (INC j) → Goes-to P c d → (d .registers j ≡ c .registers j + 1) × Other-registers-stay j c d
+pub INC-adds :
+    {P : Program} {c d : Configuration} {j : ℕ} → Has P (c .pc) (INC j) → Goes-to P c d
+    → (d .registers j ≡ c .registers j + 1) × Other-registers-stay j c d
 unfolding Final
 INC-adds h (final f l r) = absurd (has-not-final h f)
 INC-adds {j} h (rule-1 {j = k} i v l r) = let z : k ≡ j = cc (has-one h i) in (rw z at v, rw z at r)

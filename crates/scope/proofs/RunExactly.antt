@@ -30,7 +30,9 @@ record Rest-ends (P : Program) (beyond : ℕ → ℕ) (left s line : ℕ) (rs : 
   within : more ≤ left
   reason : Reason P left more (configuration beyond (e .place) (e .registers)) (e .outcome)
 
-ends-here : {P : Program} {beyond : ℕ → ℕ} {left s line : ℕ} {rs : Registers} {o : Outcome} → length rs ≡ register-count → Reason P left 0 (configuration beyond line rs) o
+ends-here :
+    {P : Program} {beyond : ℕ → ℕ} {left s line : ℕ} {rs : Registers} {o : Outcome} → length rs ≡ register-count
+    → Reason P left 0 (configuration beyond line rs) o
     → Rest-ends P beyond left s line rs (record { outcome = o; steps = s; place = line; registers = rs })
 ends-here len r = record { more = 0; steps-are = omega arith; registers-again = len; leads = here; within = omega arith; reason = r }
 
@@ -54,7 +56,9 @@ module _ {P : Program} (ours : Our-program P) (beyond : ℕ → ℕ) where
         reason = later (r .reason);
       }
 
-  run-ends : (start budget : ℕ) (rs : Registers) → length rs ≡ register-count → start ≤ length P → Run-ends P beyond start rs budget (flat-run P start budget rs)
+  run-ends :
+      (start budget : ℕ) (rs : Registers) → length rs ≡ register-count → start ≤ length P
+      → Run-ends P beyond start rs budget (flat-run P start budget rs)
   unfolding flat-run run-from
   run-ends start budget rs len h =
       let r = rest-ends budget 0 start rs len (stepped ours beyond start rs len h) in
@@ -81,7 +85,8 @@ module _ {P : Program} {budget : ℕ} where
   one-reason e (full nf n u) (full nf′ n′ u′) = cc (has-one (u .before-INC) (u′ .before-INC))
 
   -- where a step is done, only the budget could have been a reason to end
-  only-the-budget : {t : ℕ} {c : Configuration} {o : Outcome} → (Final P c → ⊥) → ((j : ℕ) → Full P c j → ⊥) → Reason P budget t c o → t ≡ budget
+  only-the-budget :
+      {t : ℕ} {c : Configuration} {o : Outcome} → (Final P c → ⊥) → ((j : ℕ) → Full P c j → ⊥) → Reason P budget t c o → t ≡ budget
   only-the-budget nf nu (finished f) = absurd (nf f)
   only-the-budget nf nu (out-of-steps _ b) = b
   only-the-budget nf nu (full {j} _ n u) = absurd (nu j u)
@@ -116,7 +121,9 @@ module _ {P : Program} {beyond : ℕ → ℕ} {start budget : ℕ} {rs : Registe
 
 -- ---- the laws
 
-pub run-exactly : {P : Program} → Our-program P → (beyond : ℕ → ℕ) (start budget : ℕ) (rs : Registers) (e : End ℕ) → length rs ≡ register-count → start ≤ length P
+pub run-exactly :
+    {P : Program} → Our-program P → (beyond : ℕ → ℕ) (start budget : ℕ) (rs : Registers) (e : End ℕ) → length rs ≡ register-count
+    → start ≤ length P
     → (flat-run P start budget rs ≡ e) ↔ Run-ends P beyond start rs budget e
 run-exactly {P} ours beyond start budget rs e len h = (λ z. rw z at r, λ r′. run-ends-once r r′)
   where
@@ -124,7 +131,8 @@ run-exactly {P} ours beyond start budget rs e len h = (λ z. rw z at r, λ r′.
     r = run-ends ours beyond start budget rs len h
 
 -- A run that is not OUT OF STEPS ends the same way with every greater budget.
-pub more-budget : {P : Program} → Our-program P → (start budget budget′ : ℕ) (rs : Registers) (e : End ℕ) → length rs ≡ register-count → start ≤ length P
+pub more-budget :
+    {P : Program} → Our-program P → (start budget budget′ : ℕ) (rs : Registers) (e : End ℕ) → length rs ≡ register-count → start ≤ length P
     → flat-run P start budget rs ≡ e → e .outcome ≢ OUT-OF-STEPS → budget ≤ budget′ → flat-run P start budget′ rs ≡ e
 more-budget {P} ours start budget budget′ rs e len h z stopped le =
     run-exactly ours beyond start budget′ rs e len h .1 (record {

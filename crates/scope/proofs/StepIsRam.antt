@@ -27,11 +27,14 @@ within-whatever-beyond (x ∷ rs) zero d d′ h = refl
 within-whatever-beyond (x ∷ rs) (suc j) d d′ h = within-whatever-beyond rs j d d′ (omega arith)
 
 -- a register of ours has our value, and a value that we write there stands there
-pub value-there : (beyond : ℕ → ℕ) (rs : Registers) (j : ℕ) → length rs ≡ register-count → j < register-count → getD rs j (beyond j) ≡ value rs j
+pub value-there :
+    (beyond : ℕ → ℕ) (rs : Registers) (j : ℕ) → length rs ≡ register-count → j < register-count → getD rs j (beyond j) ≡ value rs j
 unfolding value
 value-there beyond rs j len h = within-whatever-beyond rs j (beyond j) 0 (omega (arith, len))
 
-written-there : (beyond : ℕ → ℕ) (rs : Registers) (j v : ℕ) → length rs ≡ register-count → j < register-count → getD (with-value rs j v) j (beyond j) ≡ v
+written-there :
+    (beyond : ℕ → ℕ) (rs : Registers) (j v : ℕ) → length rs ≡ register-count → j < register-count
+    → getD (with-value rs j v) j (beyond j) ≡ v
 unfolding with-value
 written-there beyond rs j v len h = getD-set-same rs j v (beyond j) (omega (arith, len))
 
@@ -60,14 +63,17 @@ module _ {P : Program} (ours : Our-program P) (beyond : ℕ → ℕ) (line : ℕ
       j<32 : j < register-count
       j<32 = ours .registers-within line (INC j) h
 
-      go : (t : Bool) → eqb (value rs j) top ≡ t → Stepped P beyond line rs (if t (before-full j) (goes-to (suc line) (with-value rs j (suc (value rs j)))))
+      go :
+          (t : Bool) → eqb (value rs j) top ≡ t
+          → Stepped P beyond line rs (if t (before-full j) (goes-to (suc line) (with-value rs j (suc (value rs j)))))
       go true e = full (record { before-INC = h; at-the-top = value-there beyond rs j len j<32 ∙ eqb-true (value rs j) top e })
       go false e =
           let below : value rs j ≢ top = eqb-false (value rs j) top e in
           goes {p′ = suc line} {rs′ = with-value rs j (suc (value rs j))}
           (has-not-final h)
           (λ i f. let z : i ≡ j = cc (has-one (f .before-INC) h) in below (sym (value-there beyond rs j len j<32) ∙ (rw z at (f .at-the-top))))
-          (rule-1 h (omega (arith, written-there beyond rs j (suc (value rs j)) len j<32, value-there beyond rs j len j<32)) (omega arith) (λ i n. getD-set-other rs j i (suc (value rs j)) (beyond i) n))
+          (rule-1 h (omega (arith, written-there beyond rs j (suc (value rs j)) len j<32, value-there beyond rs j len j<32)) (omega arith)
+          (λ i n. getD-set-other rs j i (suc (value rs j)) (beyond i) n))
           (length-set rs j (suc (value rs j)) ∙ len)
           (has-below h)
           (λ w. written-within rs j (suc (value rs j)) (omega (arith, w j)) w)
@@ -83,12 +89,14 @@ module _ {P : Program} (ours : Our-program P) (beyond : ℕ → ℕ) (line : ℕ
       not-full i f = let y : _≡_ {A = ℕ} 0 1 = cc (has-one (f .before-INC) h) in absurd (omega arith)
 
       go : (v : ℕ) → value rs j ≡ v → Stepped P beyond line rs (takes-one-from v j rs (suc line) l)
-      go zero e = goes (has-not-final h) not-full (rule-3 h (value-there beyond rs j len j<32 ∙ e) refl (λ i. refl)) len (ours .targets-within line (DEC j l) h) (λ w. w)
+      go zero e =
+          goes (has-not-final h) not-full (rule-3 h (value-there beyond rs j len j<32 ∙ e) refl (λ i. refl)) len (ours .targets-within line (DEC j l) h) (λ w. w)
       go (suc v) e =
           goes {p′ = suc line} {rs′ = with-value rs j v}
           (has-not-final h)
           not-full
-          (rule-2 h (omega (arith, written-there beyond rs j v len j<32, value-there beyond rs j len j<32, e)) (omega arith) (λ i n. getD-set-other rs j i v (beyond i) n))
+          (rule-2 h (omega (arith, written-there beyond rs j v len j<32, value-there beyond rs j len j<32, e)) (omega arith)
+          (λ i n. getD-set-other rs j i v (beyond i) n))
           (length-set rs j v ∙ len)
           (has-below h)
           (λ w. written-within rs j v (omega (arith, w j)) w)
@@ -142,7 +150,8 @@ module _ {P : Program} (ours : Our-program P) (beyond : ℕ → ℕ) (line : ℕ
     where
       go : Dec (j ≡ k) → _≡_ {A = Next ℕ} (before-full k) (before-full j)
       go (yes e) = cc
-      go (no n) = absurd (omega (arith, INC-adds (f .before-INC) (o .transition) .1 j n, o .above-the-top, value-there beyond rs j len (o .one-of-ours), w j))
+      go (no n) =
+          absurd (omega (arith, INC-adds (f .before-INC) (o .transition) .1 j n, o .above-the-top, value-there beyond rs j len (o .one-of-ours), w j))
   overflow-is-full w j o (goes {p′} {rs′} nf nu g len′ p w′) =
       let e : o .after ≡ configuration beyond p′ rs′ = one-transition (o .transition) g in
       absurd (omega (arith, rw e at (o .above-the-top), value-there beyond rs′ j len′ (o .one-of-ours), w′ w j))
@@ -174,5 +183,7 @@ module _ {P : Program} (ours : Our-program P) (beyond : ℕ → ℕ) (line : ℕ
       the-full : {j : ℕ} → Stepped P beyond line rs (before-full j) → Full P at-c j
       the-full (full f) = f
 
-      the-step : {p′ : ℕ} {rs′ : Registers} → Stepped P beyond line rs (goes-to p′ rs′) → Goes-to P at-c (configuration beyond p′ rs′) × (length rs′ ≡ register-count) × (p′ ≤ length P) × (Values-within rs → Values-within rs′)
+      the-step :
+          {p′ : ℕ} {rs′ : Registers} → Stepped P beyond line rs (goes-to p′ rs′)
+          → Goes-to P at-c (configuration beyond p′ rs′) × (length rs′ ≡ register-count) × (p′ ≤ length P) × (Values-within rs → Values-within rs′)
       the-step (goes nf nu g len′ p w) = (g, len′, p, w)

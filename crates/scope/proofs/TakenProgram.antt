@@ -68,7 +68,8 @@ module _ (b : List ℕ) (taken : Taken b) (flat : routines b ≡ 1) where
     where
       each : (p : ℕ) {I : Instruction} → Has (program-of b) p I → Register-within register-count I × Target-within (length (program-of b)) I
       each p h =
-          rw (instruction-at b p h, length-program-of b) (fits (fields-at b p) (lines b) (line-of-the-book p (omega (arith, has-below h, length-program-of b))))
+          rw (instruction-at b p h, length-program-of b)
+          (fits (fields-at b p) (lines b) (line-of-the-book p (omega (arith, has-below h, length-program-of b))))
 
   inside : {line : ℕ} → line ≤ lines b → line ≤ length (program-of b)
   inside h = rw (length-program-of b) h

@@ -151,7 +151,8 @@ which-refuses {t = true} {y} {x} C i f g e =
 which-refuses {t = false} C i f g e = g (i .when-false .0 refl) e
 
 -- Where nothing is refused, the test found no fault, and nothing that follows is refused.
-pub finds-no-fault : {t : Bool} {P Q : Type 0} {rest : Verdict} (y : Refusal) → Tells t P Q → if t (refuse y) rest ≡ pass → Q × (rest ≡ pass)
+pub finds-no-fault :
+    {t : Bool} {P Q : Type 0} {rest : Verdict} (y : Refusal) → Tells t P Q → if t (refuse y) rest ≡ pass → Q × (rest ≡ pass)
 unfolding if
 finds-no-fault {t = true} y i e = absurd (pass-is-no-refusal (sym e))
 finds-no-fault {t = false} y i e = (i .when-false .0 refl, e)

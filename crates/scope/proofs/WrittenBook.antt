@@ -111,7 +111,8 @@ instruction-again (ram.GO-TO t) = refl
 
 -- ---- the book that is written
 
-written-line-is-good : (x : Instruction) (n : ℕ) → Register-within register-count x → Target-within n x → Good-line (fields-of (as-line x)) 0 n
+written-line-is-good :
+    (x : Instruction) (n : ℕ) → Register-within register-count x → Target-within n x → Good-line (fields-of (as-line x)) 0 n
 unfolding Register-within Target-within fields-of as-line Wrong-kind Wrong-register Zero-stands Wrong-target Has-target Wrong-callee Has-callee
 written-line-is-good (ram.INC j) n r t =
     record {

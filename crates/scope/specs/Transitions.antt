@@ -55,14 +55,16 @@ pub record Step-is-transition (P : Program) (beyond : ℕ → ℕ) (line : ℕ) 
   -- and values of 0 to 65,535 are again such;
   pub values-again : {p′ : ℕ} {rs′ : Registers} → Values-within rs → flat-next P line rs ≡ goes-to p′ rs′ → Values-within rs′
   -- it is before a full register exactly where the transition would leave that register above 65,535.
-  pub before-full-exactly : Values-within rs → (j : ℕ) → (flat-next P line rs ≡ before-full j) ↔ Overflows P (configuration beyond line rs) j
+  pub before-full-exactly :
+      Values-within rs → (j : ℕ) → (flat-next P line rs ≡ before-full j) ↔ Overflows P (configuration beyond line rs) j
 
 -- ---- a run
 
 -- s transitions lead from c to d. None of the configurations before d is final or before a full register.
 pub data Leads (P : Program) : (s : ℕ) → (c d : Configuration) → Type 0 where
   here : {c : Configuration} → Leads P 0 c c
-  one-more : {s : ℕ} {c d e : Configuration} → (Final P c → ⊥) → ((j : ℕ) → Full P c j → ⊥) → Goes-to P c d → Leads P s d e → Leads P (suc s) c e
+  one-more :
+      {s : ℕ} {c d e : Configuration} → (Final P c → ⊥) → ((j : ℕ) → Full P c j → ⊥) → Goes-to P c d → Leads P s d e → Leads P (suc s) c e
 
 -- Why a run ends at c after s steps: .., in this order: at line n, FINISHED; budget used up, OUT OF STEPS; INC of a register at 65,535, FULL
 pub data Reason (P : Program) (budget s : ℕ) (c : Configuration) : Outcome → Type 0 where
