@@ -86,7 +86,7 @@ module _ {P : Program} {budget : ℕ} where
 
   -- where a step is done, only the budget could have been a reason to end
   only-the-budget :
-      {t : ℕ} {c : Configuration} {o : Outcome} → (Final P c → ⊥) → ((j : ℕ) → Full P c j → ⊥) → Reason P budget t c o → t ≡ budget
+      {t : ℕ} {c : Configuration} {o : Outcome} → ¬ Final P c → ((j : ℕ) → ¬ Full P c j) → Reason P budget t c o → t ≡ budget
   only-the-budget nf nu (finished f) = absurd (nf f)
   only-the-budget nf nu (out-of-steps _ b) = b
   only-the-budget nf nu (full {j} _ n u) = absurd (nu j u)

@@ -64,13 +64,13 @@ pub record Step-is-transition (P : Program) (beyond : ℕ → ℕ) (line : ℕ) 
 pub data Leads (P : Program) : (s : ℕ) → (c d : Configuration) → Type 0 where
   here : {c : Configuration} → Leads P 0 c c
   one-more :
-      {s : ℕ} {c d e : Configuration} → (Final P c → ⊥) → ((j : ℕ) → Full P c j → ⊥) → Goes-to P c d → Leads P s d e → Leads P (suc s) c e
+      {s : ℕ} {c d e : Configuration} → ¬ Final P c → ((j : ℕ) → ¬ Full P c j) → Goes-to P c d → Leads P s d e → Leads P (suc s) c e
 
 -- Why a run ends at c after s steps: .., in this order: at line n, FINISHED; budget used up, OUT OF STEPS; INC of a register at 65,535, FULL
 pub data Reason (P : Program) (budget s : ℕ) (c : Configuration) : Outcome → Type 0 where
   finished : Final P c → Reason P budget s c FINISHED
-  out-of-steps : (Final P c → ⊥) → s ≡ budget → Reason P budget s c OUT-OF-STEPS
-  full : {j : ℕ} → (Final P c → ⊥) → s ≢ budget → Full P c j → Reason P budget s c (FULL j)
+  out-of-steps : ¬ Final P c → s ≡ budget → Reason P budget s c OUT-OF-STEPS
+  full : {j : ℕ} → ¬ Final P c → s ≢ budget → Full P c j → Reason P budget s c (FULL j)
 
 -- A run ends so: the steps done lead to the line reached and what the registers hold, and there is a reason to end there and not before.
 pub record Run-ends (P : Program) (beyond : ℕ → ℕ) (start : ℕ) (rs : Registers) (budget : ℕ) (e : End ℕ) : Type 0 where
