@@ -13,6 +13,7 @@ use Rattle.scope.specs.Refusals.{DEPTH, number, Refusal, refuse}
 use Rattle.scope.specs.Given.{refusal, Given, gives-SHORT, gives-FORMAT, gives-COUNTS, gives-OFFSETS, gives-LENGTH, gives-ROUTINE, gives-ROUTINE-last, gives-KIND, gives-REGISTER, gives-TARGET, gives-CALLEE}
 use Rattle.scope.specs.GivenByCalls.{Given-to-flatten, to-flatten-the-book, to-flatten-NO-ROUTINE, to-flatten-DEPTH, to-flatten-TOO-LONG}
 use Rattle.scope.specs.Depth.{Opened, alone, around}
+use Rattle.scope.proofs.Lists.{nothing-stands}
 use Rattle.scope.proofs.Lowest.{depth-by-the-rule}
 use Rattle.scope.proofs.GivenByCalls.{to-flatten-given-exactly-when}
 use Rattle.scope.proofs.TakenBook.{taken-book, taken-callees-below}
@@ -27,8 +28,7 @@ used-is f by-REPEAT = refl
 deepest-bounds :
     (f : ℕ → ℕ) (ls : List Line) (i : ℕ) {l : Line} {rest : List Line} {c : ℕ} → drop i ls ≡ l ∷ rest → Line-uses l c → f c ≤ deepest f ls
 unfolding deepest
-deepest-bounds f [] zero e u = let y : _≡_ {A = ℕ} 0 1 = cc in absurd (omega arith)
-deepest-bounds f [] (suc i) e u = let y : _≡_ {A = ℕ} 0 1 = cc in absurd (omega arith)
+deepest-bounds f [] i e u = nothing-stands i e
 deepest-bounds f (m ∷ ls) zero {l} e u =
     let z : m ≡ l = cc in
     rw z (omega (arith, used-is f u))

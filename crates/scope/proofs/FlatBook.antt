@@ -12,6 +12,7 @@ use Rattle.scope.specs.Flattening.{line-length, sum-of, length-by, flat-
 use Rattle.scope.specs.FlatBook.{Fits-a-book, Says, Bytes}
 use Rattle.scope.specs.Transitions.{Register-within, Registers-within}
 use Rattle.scope.specs.Steps.{register-count}
+use Rattle.scope.proofs.Lists.{nothing-stands}
 use Rattle.scope.proofs.Lowest.{flat-length-by-the-rule, copy-by-the-rule}
 use Rattle.scope.proofs.FlatLines.{length-flat-program}
 use Rattle.scope.proofs.TakenBook.{Line-fits, INC-fits, DEC-fits, GO-TO-fits, CALL-fits, REPEAT-fits, taken-lines-fit, taken-callees-below}
@@ -33,12 +34,7 @@ both-fit none g = g
 both-fit (one-more h f) g = one-more h (both-fit f g)
 
 each-fits : {n : ℕ} {P : Program} (p : ℕ) {x : Instruction} {rest : Program} → All-fit n P → drop p P ≡ x ∷ rest → Fits n x
-each-fits zero none e =
-    let y : _≡_ {A = ℕ} 0 1 = cc in
-    absurd (omega arith)
-each-fits (suc p) none e =
-    let y : _≡_ {A = ℕ} 0 1 = cc in
-    absurd (omega arith)
+each-fits p none e = nothing-stands p e
 each-fits zero {x} (one-more {x = y} h f) e =
     let same : y ≡ x = cc in
     rw same at h

@@ -3,20 +3,14 @@
 use Prim.Native.Nat.{ℕ, zero, suc, _+_}
 use native.Mathlib.Omega.{arith}
 use mathlib.Core.Path.{_≡_, refl, sym, _∙_, ap}
-use mathlib.Core.List.{List, [], _∷_, _++_, append-assoc}
+use mathlib.Core.List.{List, [], _∷_, _++_, append-assoc, cons≢nil}
 use lib.ListN.{length, take, drop, length-append}
-use lib.Seq.{drop-drop, drop-append-seam}
+use lib.Seq.{take-nil, drop-drop, drop-append-seam}
 use Rattle.scope.specs.Ram.{Program}
 use Rattle.scope.specs.Book.{Line, INC, DEC, GO-TO, CALL, REPEAT, Book, routine, Callees-below, said-below, from-the-lowest-up}
 use Rattle.scope.specs.Flattening.{line-length, sum-of, length-by, flat-length, start, copy-line, copy-lines, copy-by, copy, flat-program}
+use Rattle.scope.proofs.Lists.{nothing-stands}
 use Rattle.scope.proofs.Lowest.{flat-length-by-the-rule, copy-by-the-rule}
-
--- ---- lists
-
-pub drop-tail : {A : Type 0} {x : A} {xs : List A} (ls : List A) (i : ℕ) → drop i ls ≡ x ∷ xs → drop (suc i) ls ≡ xs
-drop-tail ls i e =
-    let z : suc i ≡ i + 1 = omega arith in
-    rw z (sym (drop-drop 1 i ls) ∙ ap (drop 1) e)
 
 -- ---- sums up to a line
 
@@ -25,16 +19,14 @@ module _ (of-line : Line → ℕ) where
       {l : Line} {rest : List Line} (ls : List Line) (i : ℕ) → drop i ls ≡ l ∷ rest
       → sum-of of-line (take (suc i) ls) ≡ sum-of of-line (take i ls) + of-line l
   unfolding sum-of
-  sum-to-the-next {l} [] zero e = let y : _≡_ {A = ℕ} 0 1 = cc in absurd (omega arith)
-  sum-to-the-next {l} [] (suc i) e = let y : _≡_ {A = ℕ} 0 1 = cc in absurd (omega arith)
+  sum-to-the-next [] i e = nothing-stands i e
   sum-to-the-next {l} (x ∷ ls) zero e = let z : x ≡ l = cc in rw z (omega arith)
   sum-to-the-next {l} (x ∷ ls) (suc i) e = omega (arith, sum-to-the-next ls i e)
 
   sum-to-the-end : (ls : List Line) (i : ℕ) → drop i ls ≡ [] → sum-of of-line (take i ls) ≡ sum-of of-line ls
   unfolding sum-of
-  sum-to-the-end [] zero e = refl
-  sum-to-the-end [] (suc i) e = refl
-  sum-to-the-end (x ∷ ls) zero e = let y : _≡_ {A = ℕ} 0 1 = cc in absurd (omega arith)
+  sum-to-the-end [] i e = ap (sum-of of-line) (take-nil i)
+  sum-to-the-end (x ∷ ls) zero e = absurd (cons≢nil e)
   sum-to-the-end (x ∷ ls) (suc i) e = omega (arith, sum-to-the-end ls i e)
 
 -- ---- a copy is as long as the lengths say
@@ -121,8 +113,7 @@ module _ (book : Book) (ok : Callees-below book) where
       → Stands P q (copy-lines book (copy book) k b q ls) → drop i ls ≡ l ∷ rest → p ≡ q + sum-of (line-length (flat-length book)) (take i ls)
       → Stands P p (copy-line book (copy book) k b p l)
   unfolding copy-lines sum-of
-  lines-stand {l = l} k b q p [] zero s e a = let y : _≡_ {A = ℕ} 0 1 = cc in absurd (omega arith)
-  lines-stand {l = l} k b q p [] (suc i) s e a = let y : _≡_ {A = ℕ} 0 1 = cc in absurd (omega arith)
+  lines-stand k b q p [] i s e a = nothing-stands i e
   lines-stand {l = l} k b q p (x ∷ ls) zero s e a =
       let z : x ≡ l = cc in
       let w : p ≡ q = omega arith in

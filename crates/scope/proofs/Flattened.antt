@@ -14,12 +14,13 @@ use Rattle.scope.specs.Nested.{nested-run}
 use Rattle.scope.specs.Flattening.{flat-program, flat-book}
 use Rattle.scope.specs.Running.{flat-run, program-of, run-verdict}
 use Rattle.scope.specs.Quote.{steady, quote}
+use Rattle.scope.specs.Addresses.{Same-end}
 use Rattle.scope.specs.Enough.{Ends-within}
 use Rattle.scope.specs.GivenByCalls.{Flattens}
 use Rattle.scope.proofs.Verdicts.{no-fault, is-not-tells}
 use Rattle.scope.proofs.GivenByCalls.{running-passes}
 use Rattle.scope.proofs.TakenBook.{taken-callees-below}
-use Rattle.scope.proofs.Simulation.{Same-end, simulation}
+use Rattle.scope.proofs.Simulation.{simulation}
 use Rattle.scope.proofs.QuoteEnough.{quote-enough}
 use Rattle.scope.proofs.FlatBook.{flat-book-is-taken}
 

@@ -11,7 +11,7 @@ pub mod Verdicts
 pub mod Tests
 pub mod GivenExactlyWhen
 pub mod GivenByCalls
-pub mod Listed
+pub mod Lists
 pub mod TakenBook
 -- the flat machine is source document 000's
 pub mod Registers

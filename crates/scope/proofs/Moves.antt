@@ -10,7 +10,7 @@ use Rattle.scope.specs.Book.{Line, INC, DEC, GO-TO, CALL, REPEAT, Book, 
 use Rattle.scope.specs.Nested.{Opened-by, a-CALL, a-REPEAT, Place, come-to, enter-by, enter, leave, settle}
 use Rattle.scope.specs.Moves.{Moves-to, INC-is-a-step, DEC-is-a-step, GO-TO-is-a-step, REPEAT-looks, CALL-enters, CALL-goes-on, REPEAT-goes-back, asked-is-at-its-end}
 use Rattle.scope.proofs.Lowest.{enter-by-the-rule}
-use Rattle.scope.proofs.FlatLines.{drop-tail}
+use Rattle.scope.proofs.Lists.{drop-tail}
 
 module _ (book : Book) (ok : Callees-below book) where
   -- ---- what `settle` gives, the moves lead to

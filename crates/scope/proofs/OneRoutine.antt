@@ -14,7 +14,7 @@ use Rattle.scope.specs.Flattening.{line-length, sum-of, flat-length, sta
 use Rattle.scope.specs.Running.{instruction-of, program-of}
 use Rattle.scope.specs.Given.{Zero-stands, Has-callee}
 use Rattle.scope.proofs.Verdicts.{is-tells, either-way}
-use Rattle.scope.proofs.Listed.{listed-map}
+use Rattle.scope.proofs.Lists.{listed-map}
 use Rattle.scope.proofs.TakenProgram.{line-of-the-book, taken-program}
 use Rattle.scope.proofs.TakenBook.{Taken-line, taken-book}
 

@@ -13,16 +13,15 @@ use Rattle.scope.specs.Words.{_is_, if}
 use Rattle.scope.specs.Book.{Line, INC, DEC, GO-TO, CALL, REPEAT, Book, routine, used, Callees-below}
 use Rattle.scope.specs.Steps.{top, Registers, value, with-value, Values-within, Next, at-the-end, before-full, goes-to, adds-one, takes-one-from, takes-one-off, run-on, run-from}
 use Rattle.scope.specs.Nested.{Opened-by, a-CALL, a-REPEAT, Step, inc, dec, go-to, look, go-back, Place, ended, due, come-to, settle, nested-step, nested-next, nested-run}
-use Rattle.scope.specs.Flattening.{sum-of, start, flat-program}
+use Rattle.scope.specs.Flattening.{sum-of, start}
 use Rattle.scope.specs.Addresses.{begins}
-use Rattle.scope.specs.Running.{flat-run}
 use Rattle.scope.specs.Quote.{line-steady, steady, line-quote, quote-by, quote}
-use Rattle.scope.specs.Enough.{raises, raised, steady-where-not-raised, By-itself, finished, full, Ends-within}
+use Rattle.scope.specs.Enough.{raises, raised, steady-where-not-raised, By-itself, finished, full, Ends-within, Quote-is-enough}
 use Rattle.scope.specs.Moves.{Moves-to, INC-is-a-step, DEC-is-a-step, GO-TO-is-a-step, REPEAT-looks, CALL-enters, CALL-goes-on, REPEAT-goes-back, asked-is-at-its-end}
 use Rattle.scope.proofs.Registers.{taken-off, written-within, none-rises, others-stay}
 use Rattle.scope.proofs.Lowest.{quote-by-the-rule}
 use Rattle.scope.proofs.Moves.{settle-is-moved-to}
-use Rattle.scope.proofs.FlatLines.{drop-tail}
+use Rattle.scope.proofs.Lists.{drop-tail}
 use Rattle.scope.proofs.Places.{does-inc, does-dec, does-go-to, does-look, does-go-back, Is-open, the-asked, called, repeated, Reached, the-end, a-step, Reached-at, settle-keeps-address}
 use Rattle.scope.proofs.Simulation.{simulation}
 use Rattle.scope.proofs.Steady.{steady-is-steady-where-not-raised, line-is-steady, called-is-steady, repeated-is-steady, repeat-is-not-raised, not-raised-here, not-raised-below}
@@ -289,11 +288,6 @@ module _ (book : Book) (ok : Callees-below book) (asked : ℕ) (steady-asked : s
       record { by-itself = on .by-itself; within = omega (arith, on .within, at-first, its-quote) }
 
 -- ---- the law
-
--- the nested run and the flat run from line 0 both end by themselves within the quote's steps
-pub record Quote-is-enough (book : Book) (k budget : ℕ) (rs : Registers) : Type 0 where
-  pub nested : Ends-within (quote book k) (nested-run book k budget rs)
-  pub flat : Ends-within (quote book k) (flat-run (flat-program book k) 0 budget rs)
 
 -- for every routine whose REPEATs' registers are not raised by INC in or under the repeated routine
 pub quote-enough-where-not-raised :

@@ -11,11 +11,11 @@ use Rattle.scope.specs.Words.{_is_, if}
 use Rattle.scope.specs.Ram as ram
 use Rattle.scope.specs.Ram.{Program}
 use Rattle.scope.specs.Book.{Line, INC, DEC, GO-TO, Book, routine, Callees-below}
-use Rattle.scope.specs.Steps.{top, Registers, value, with-value, Next, at-the-end, before-full, goes-to, adds-one, takes-one-from, takes-one-off, Outcome, FINISHED, OUT-OF-STEPS, FULL, End, end, run-on, run-from}
+use Rattle.scope.specs.Steps.{top, Registers, value, with-value, Next, at-the-end, before-full, goes-to, adds-one, takes-one-from, takes-one-off, Outcome, FINISHED, OUT-OF-STEPS, FULL, end, run-on, run-from}
 use Rattle.scope.specs.Nested.{Opened-by, a-CALL, a-REPEAT, Place, due, settle, nested-step, nested-next, nested-run}
 use Rattle.scope.specs.Flattening.{line-length, flat-length, start, copy-line, copy, flat-program}
 use Rattle.scope.specs.Running.{flat-step, flat-next, flat-run}
-use Rattle.scope.specs.Addresses.{begins, behind-its-start, address}
+use Rattle.scope.specs.Addresses.{begins, behind-its-start, address, Same-end}
 use Rattle.scope.proofs.FlatLines.{length-copy, length-flat-program, first-start, next-start, Stands, front-stands, rest-stands, line-stands}
 use Rattle.scope.proofs.Places.{does-inc, does-dec, does-go-to, does-look, does-go-back, Is-open, the-asked, called, repeated, Reached, the-end, a-step, Reached-at, settle-keeps-address}
 
@@ -48,16 +48,9 @@ module _ (book : Book) (asked : ℕ) where
       by-value zero = both-go h
       by-value (suc v) = both-go g
 
-  -- how a run ended, in both readings
-  pub record Same-end (flat : End ℕ) (nested : End Place) : Type 0 where
-    pub same-outcome : flat .outcome ≡ nested .outcome
-    pub same-steps : flat .steps ≡ nested .steps
-    pub same-registers : flat .registers ≡ nested .registers
-    pub line-is-address : flat .place ≡ address book asked (nested .place)
-
   same-end-here :
       (o : Outcome) (done p : ℕ) (rs : Registers) (place : Place) → Reached-at book asked place p
-      → Same-end (end o done p rs) (end o done place rs)
+      → Same-end book asked (end o done p rs) (end o done place rs)
   same-end-here o done p rs place g =
       record { same-outcome = refl; same-steps = refl; same-registers = refl; line-is-address = sym (g .its-address) }
 

@@ -2,7 +2,7 @@
 -- A steady routine's register rule is a parameter; where less is wrong, more is steady, and what is raised is named.
 use Prim.Native.Nat.{ℕ, zero, suc, _+_}
 use native.Mathlib.Omega.{arith}
-use mathlib.Core.Bool.{Bool, true, false, not}
+use mathlib.Core.Bool.{Bool, true, false, not, false≢true}
 use mathlib.Core.Path.{_≡_, refl, sym, _∙_}
 use mathlib.Core.List.{List, [], _∷_}
 use lib.ListN.{drop}
@@ -11,6 +11,7 @@ use Rattle.scope.specs.Words.{if, _and_, _or_}
 use Rattle.scope.specs.Book.{Line, INC, DEC, GO-TO, CALL, REPEAT, Book, routine, used, Callees-below, said-below, from-the-lowest-up}
 use Rattle.scope.specs.Quote.{names, some-line, in-or-under-by, in-or-under, named, line-steady, lines-steady, steady-by, steady}
 use Rattle.scope.specs.Enough.{raises, raised, steady-where-not-raised}
+use Rattle.scope.proofs.Lists.{nothing-stands}
 use Rattle.scope.proofs.Verdicts.{itself-tells, or-tells, and-tells}
 use Rattle.scope.proofs.Lowest.{in-or-under-by-the-rule, steady-by-the-rule}
 
@@ -44,8 +45,7 @@ line-of-steady-lines :
     (bad : ℕ → ℕ → Bool) (f : ℕ → Bool) {l : Line} {rest : List Line} (n i q : ℕ) (ls : List Line) → lines-steady bad f n ls ≡ true
     → drop i ls ≡ l ∷ rest → q ≡ n + i → line-steady bad f q l ≡ true
 unfolding lines-steady
-line-of-steady-lines bad f n zero q [] s e a = let y : _≡_ {A = ℕ} 0 1 = cc in absurd (omega arith)
-line-of-steady-lines bad f n (suc i) q [] s e a = let y : _≡_ {A = ℕ} 0 1 = cc in absurd (omega arith)
+line-of-steady-lines bad f n i q [] s e a = nothing-stands i e
 line-of-steady-lines bad f {l} n zero q (x ∷ ls) s e a =
     let z : x ≡ l = cc in
     let w : q ≡ n = omega arith in
@@ -58,8 +58,7 @@ no-line-is-such :
     (such : Line → Bool) (f : ℕ → Bool) {l : Line} {rest : List Line} (i : ℕ) (ls : List Line) → some-line such f ls ≡ false
     → drop i ls ≡ l ∷ rest → such l or used false f l ≡ false
 unfolding some-line if
-no-line-is-such such f zero [] n e = let y : _≡_ {A = ℕ} 0 1 = cc in absurd (omega arith)
-no-line-is-such such f (suc i) [] n e = let y : _≡_ {A = ℕ} 0 1 = cc in absurd (omega arith)
+no-line-is-such such f i [] n e = nothing-stands i e
 no-line-is-such such f {l} zero (x ∷ ls) n e =
     let z : x ≡ l = cc in
     let none = both-false (such x) (used false f x or some-line such f ls) n in
@@ -129,10 +128,10 @@ module _ (book : Book) where
   raises-names : (j : ℕ) (l : Line) → raises j l ≡ true → names j l ≡ true
   unfolding raises names
   raises-names j (INC r) e = e
-  raises-names j (DEC r t) e = let y : _≡_ {A = ℕ} 0 1 = cc in absurd (omega arith)
+  raises-names j (DEC r t) e = absurd (false≢true e)
   raises-names j (GO-TO t) e = e
   raises-names j (CALL c) e = e
-  raises-names j (REPEAT r c) e = let y : _≡_ {A = ℕ} 0 1 = cc in absurd (omega arith)
+  raises-names j (REPEAT r c) e = absurd (false≢true e)
 
   raised-is-named : (j k : ℕ) → raised book j k ≡ true → named book j k ≡ true
   unfolding raised named in-or-under from-the-lowest-up

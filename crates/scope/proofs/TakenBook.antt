@@ -11,7 +11,7 @@ use Rattle.scope.specs.Words.{listed}
 use Rattle.scope.specs.Book.{the-format, header-bytes, format, routine-table, line-table, line-table-due, most-routines, most-lines, last-register, routines, lines, stated-length, length-due, first-line, count, first-line-due, Line-fields, Line, INC, DEC, GO-TO, CALL, REPEAT, INC-kind, DEC-kind, GO-TO-kind, CALL-kind, REPEAT-kind, line-of, fields-in, Taken, routine, routine-of, book-of, Line-uses, by-CALL, by-REPEAT, Callees-below}
 use Rattle.scope.specs.Given.{Wrong-format, Wrong-counts, Wrong-offsets, Wrong-length, Wrong-entry, Wrong-end, Wrong-kind, Zero-stands, Wrong-register, Has-target, Wrong-target, Has-callee, Wrong-callee, Good-line, Good-in}
 use Rattle.scope.proofs.Verdicts.{one-holds, else-holds, above-tells, below-tells, not-below-tells, is-tells, is-not-tells, or-tells, either-way}
-use Rattle.scope.proofs.Listed.{length-listed, listed-at, listed-member}
+use Rattle.scope.proofs.Lists.{length-listed, listed-at, listed-member}
 use Rattle.scope.proofs.GivenExactlyWhen.{routines-in-order, taken-exactly-when}
 
 -- ---- the bytes

@@ -14,7 +14,7 @@ use Rattle.scope.specs.Steps.{register-count, Registers, OUT-OF-STEPS, E
 use Rattle.scope.specs.Running.{flat-run, instruction-of, program-of}
 use Rattle.scope.specs.Transitions.{Register-within, Registers-within, Our-program, Step-is-transition, Run-ends}
 use Rattle.scope.proofs.Verdicts.{is-tells, either-way}
-use Rattle.scope.proofs.Listed.{length-listed, listed-at}
+use Rattle.scope.proofs.Lists.{length-listed, listed-at}
 use Rattle.scope.proofs.TakenBook.{Taken-line, taken-book}
 use Rattle.scope.proofs.Ram.{has-below}
 use Rattle.scope.proofs.StepIsRam.{step-is-ram}

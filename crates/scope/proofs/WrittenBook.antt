@@ -18,7 +18,7 @@ use Rattle.scope.specs.FlatBook.{Fits-a-book, Says, Bytes}
 use Rattle.scope.specs.Transitions.{Register-within, Registers-within}
 use Rattle.scope.specs.Steps.{register-count}
 use Rattle.scope.specs.Running.{instruction-of, program-of}
-use Rattle.scope.proofs.Listed.{listed-is}
+use Rattle.scope.proofs.Lists.{nothing-stands, listed-is}
 use Rattle.scope.proofs.GivenExactlyWhen.{taken-exactly-when}
 use Rattle.scope.proofs.TakenBook.{taken-book}
 use Rattle.scope.proofs.TakenProgram.{length-program-of, line-of-the-book}
@@ -80,9 +80,7 @@ unfolding bytes-of-program bytes-of-fields two-bytes
 four-a-line P zero q m e h =
     let z : q ≡ m = omega arith in
     rw (z, e)
-four-a-line [] (suc i) q m e h =
-    let y : _≡_ {A = ℕ} 0 1 = cc in
-    absurd (omega arith)
+four-a-line [] (suc i) q m e h = nothing-stands (suc i) e
 four-a-line (y ∷ P) (suc i) q m e h =
     let z : q ≡ suc (suc (suc (suc (4 * i + m)))) = omega arith in
     rw z (four-a-line P i (4 * i + m) m e refl)

@@ -1,8 +1,10 @@
 -- Where a place of the nested reading stands in the flat program: the number of the flat line whose step is due there.
 -- It ties the two readings together; neither of them is defined by it. Assumes nothing.
 use Prim.Native.Nat.{ℕ, _+_}
+use mathlib.Core.Path.{_≡_}
 use mathlib.Core.List.{List, [], _∷_}
 use Rattle.scope.specs.Book.{Book}
+use Rattle.scope.specs.Steps.{End}
 use Rattle.scope.specs.Nested.{Opened-by, a-CALL, a-REPEAT, Step, inc, dec, go-to, look, go-back, Place, ended, due}
 use Rattle.scope.specs.Flattening.{flat-length, start}
 
@@ -26,3 +28,11 @@ module _ (book : Book) where
   unfoldable pub address : (asked : ℕ) → Place → ℕ
   address asked ended = flat-length book asked
   address asked (due d k i around) = begins around + start book k i + behind-its-start d
+
+-- A flat run and a nested run of the asked routine end alike: same outcome (with FULL's register), steps and registers, and the flat line
+-- reached is the address of the place reached.
+pub record Same-end (book : Book) (asked : ℕ) (flat : End ℕ) (nested : End Place) : Type 0 where
+  pub same-outcome : flat .outcome ≡ nested .outcome
+  pub same-steps : flat .steps ≡ nested .steps
+  pub same-registers : flat .registers ≡ nested .registers
+  pub line-is-address : flat .place ≡ address book asked (nested .place)

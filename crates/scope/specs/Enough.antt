@@ -4,8 +4,11 @@ use Prim.Native.Nat.{ℕ, _≤_}
 use mathlib.Core.Bool.{Bool, true, false}
 use Rattle.scope.specs.Words.{_is_}
 use Rattle.scope.specs.Book.{Line, INC, DEC, GO-TO, CALL, REPEAT, Book, from-the-lowest-up}
-use Rattle.scope.specs.Steps.{Outcome, FINISHED, FULL, End}
-use Rattle.scope.specs.Quote.{in-or-under, steady-by}
+use Rattle.scope.specs.Steps.{Registers, Outcome, FINISHED, FULL, End}
+use Rattle.scope.specs.Nested.{nested-run}
+use Rattle.scope.specs.Flattening.{flat-program}
+use Rattle.scope.specs.Running.{flat-run}
+use Rattle.scope.specs.Quote.{in-or-under, steady-by, quote}
 
 -- INC raises its register, and no other line does.
 unfoldable pub raises : (register : ℕ) → Line → Bool
@@ -33,3 +36,8 @@ pub data By-itself : Outcome → Type 0 where
 pub record Ends-within {P : Type 0} (most : ℕ) (e : End P) : Type 0 where
   pub by-itself : By-itself (e .outcome)
   pub within : e .steps ≤ most
+
+-- The nested run and the flat run from line 0 both end by themselves within the quote's steps.
+pub record Quote-is-enough (book : Book) (k budget : ℕ) (rs : Registers) : Type 0 where
+  pub nested : Ends-within (quote book k) (nested-run book k budget rs)
+  pub flat : Ends-within (quote book k) (flat-run (flat-program book k) 0 budget rs)

@@ -31,10 +31,10 @@ pub mod Shop
 -- "Samples (starred ones are proved)"
 pub mod Cases
 pub mod Samples
--- words that the laws of proofs/ need and the paper's definitions do not
-pub mod Addresses
-pub mod FlatBook
+-- words that the laws of proofs/ need and the definitions of the calls do not
 pub mod Moves
-pub mod Enough
+pub mod Addresses
 pub mod Transitions
+pub mod FlatBook
+pub mod Enough
 pub mod Depth

@@ -1,11 +1,20 @@
--- A list by the rule of its members: how long it is, what stands at a place, and which list it is.
--- Each by the number of members; places are given as sums, so that nothing has to compute. Assumes nothing.
+-- What stands in a list at a place: nothing in the empty list, behind a member the rest; and lists by the rule of their members.
+-- Each by the members; places are given as sums, so that nothing has to compute. Assumes nothing.
 use Prim.Native.Nat.{ℕ, zero, suc, _+_, _<_}
 use native.Mathlib.Omega.{arith}
 use mathlib.Core.Path.{_≡_, refl, sym, _∙_, ap}
-use mathlib.Core.List.{List, [], _∷_, map}
+use mathlib.Core.List.{List, [], _∷_, map, nil≢cons}
 use lib.ListN.{length, getD, drop}
+use lib.Seq.{drop-nil, drop-drop}
 use Rattle.scope.specs.Words.{listed}
+
+pub nothing-stands : {A B : Type 0} {x : A} {xs : List A} (i : ℕ) → drop i [] ≡ x ∷ xs → B
+nothing-stands i e = absurd (nil≢cons (sym (drop-nil i) ∙ e))
+
+pub drop-tail : {A : Type 0} {x : A} {xs : List A} (ls : List A) (i : ℕ) → drop i ls ≡ x ∷ xs → drop (suc i) ls ≡ xs
+drop-tail ls i e =
+    let z : suc i ≡ i + 1 = omega arith in
+    rw z (sym (drop-drop 1 i ls) ∙ ap (drop 1) e)
 
 module _ {A : Type 0} where
   pub length-listed : (f : ℕ → A) (i n : ℕ) → length (listed f i n) ≡ n
@@ -22,12 +31,7 @@ module _ {A : Type 0} where
   pub listed-member : (f : ℕ → A) (i n j k : ℕ) {x : A} {rest : List A} → drop j (listed f i n) ≡ x ∷ rest → k ≡ i + j
       → (j < n) × (x ≡ f k)
   unfolding listed
-  listed-member f i zero zero k e h =
-      let y : _≡_ {A = ℕ} 0 1 = cc in
-      absurd (omega arith)
-  listed-member f i zero (suc j) k e h =
-      let y : _≡_ {A = ℕ} 0 1 = cc in
-      absurd (omega arith)
+  listed-member f i zero j k e h = nothing-stands j e
   listed-member f i (suc n) zero k {x} e h =
       let z : f i ≡ x = cc in
       (omega arith, sym z ∙ ap f (omega arith))
