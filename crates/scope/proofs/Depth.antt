@@ -9,8 +9,8 @@ use native.Mathlib.Decide.{decLe}
 use lib.ListN.{drop}
 use Rattle.scope.specs.Book.{routines, Line, INC, DEC, GO-TO, CALL, REPEAT, Taken, Book, routine, book-of, used, Line-uses, by-CALL, by-REPEAT, Uses, Callees-below}
 use Rattle.scope.specs.Flattening.{most-open, deepest, depth-by, depth, flattens-verdict}
-use Rattle.scope.specs.Refusals.{DEPTH, number, Refusal, refuse}
-use Rattle.scope.specs.Given.{refusal, Given, gives-SHORT, gives-FORMAT, gives-COUNTS, gives-OFFSETS, gives-LENGTH, gives-ROUTINE, gives-ROUTINE-last, gives-KIND, gives-REGISTER, gives-TARGET, gives-CALLEE}
+use Rattle.scope.specs.Refusals.{DEPTH, number, Refusal, refusal, refuse}
+use Rattle.scope.specs.Given.{Given, gives-SHORT, gives-FORMAT, gives-COUNTS, gives-OFFSETS, gives-LENGTH, gives-ROUTINE, gives-ROUTINE-last, gives-KIND, gives-REGISTER, gives-TARGET, gives-CALLEE}
 use Rattle.scope.specs.GivenByCalls.{Given-to-flatten, to-flatten-the-book, to-flatten-NO-ROUTINE, to-flatten-DEPTH, to-flatten-TOO-LONG}
 use Rattle.scope.specs.Depth.{Opened, alone, around}
 use Rattle.scope.proofs.Lists.{nothing-stands}

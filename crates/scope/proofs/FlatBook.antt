@@ -7,9 +7,9 @@ use mathlib.Core.List.{List, [], _∷_, _++_}
 use lib.ListN.{length, take, drop}
 use Rattle.scope.specs.Ram as ram
 use Rattle.scope.specs.Ram.{Instruction, Program, Has, has, Target-within, Targets-within}
-use Rattle.scope.specs.Book.{routines, Line, Book, routine, Callees-below, Taken, book-of}
+use Rattle.scope.specs.Book.{Bytes, routines, Line, Book, routine, Callees-below, Taken, book-of}
 use Rattle.scope.specs.Flattening.{line-length, sum-of, length-by, flat-length, start, copy-line, copy-lines, copy-by, copy, flat-program, flat-book, most-flat-lines}
-use Rattle.scope.specs.FlatBook.{Fits-a-book, Says, Bytes}
+use Rattle.scope.specs.FlatBook.{Fits-a-book, Says}
 use Rattle.scope.specs.Transitions.{Register-within, Registers-within}
 use Rattle.scope.specs.Steps.{register-count}
 use Rattle.scope.proofs.Lists.{nothing-stands}

@@ -13,6 +13,7 @@ use Rattle.scope.specs.Book.{INC-kind, DEC-kind, GO-TO-kind, routines, l
 use Rattle.scope.specs.Flattening.{line-length, sum-of, flat-length, start, copy-line, copy-lines, copy-by, copy, flat-program, as-line}
 use Rattle.scope.specs.Running.{instruction-of, program-of}
 use Rattle.scope.specs.Given.{Zero-stands, Has-callee}
+use Rattle.scope.proofs.Ram.{has-later}
 use Rattle.scope.proofs.Verdicts.{is-tells, either-way}
 use Rattle.scope.proofs.Lists.{listed-map}
 use Rattle.scope.proofs.TakenProgram.{line-of-the-book, taken-program}
@@ -95,10 +96,7 @@ module _ (book : Book) (copy-of : ℕ → ℕ → Program) (n : ℕ) (starts : (
   lines-copied p [] h = refl
   lines-copied p (x ∷ P) h =
       let next = p + line-length (flat-length book) (as-line x) in
-      rw (line-copied p x (h 0 x (has refl)), lines-copied next P (λ i y s. h (suc i) y (later s)))
-    where
-      later : {i : ℕ} {y : Instruction} → Has P i y → Has (x ∷ P) (suc i) y
-      later (has e) = has e
+      rw (line-copied p x (h 0 x (has refl)), lines-copied next P (λ i y s. h (suc i) y (has-later s)))
 
 flat-program-of-a-program : (P : Program) → Targets-within P → flat-program (map as-line P ∷ []) 0 ≡ P
 unfolding flat-program copy from-the-lowest-up said-below copy-by routine start Targets-within

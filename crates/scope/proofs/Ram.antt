@@ -16,6 +16,9 @@ use Rattle.scope.specs.Ram.{Instruction, INC, DEC, GO-TO, Program, Has, 
 pub has-one : {P : Program} {p : ℕ} {I J : Instruction} → Has P p I → Has P p J → I ≡ J
 has-one (has i) (has j) = cc
 
+pub has-later : {P : Program} {p : ℕ} {I J : Instruction} → Has P p I → Has (J ∷ P) (suc p) I
+has-later (has e) = has e
+
 pub has-below : {P : Program} {p : ℕ} {I : Instruction} → Has P p I → p < length P
 has-below {P} {p} (has {rest} e) =
     let h : suc (length rest) ≡ length P - p = rw e at (length-drop p P) in

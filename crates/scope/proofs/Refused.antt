@@ -5,7 +5,7 @@ use Prim.Native.String.{String}
 use mathlib.Core.Bool.{true, false}
 use mathlib.Core.Path.{_≡_, refl}
 use mathlib.Core.List.{List, [], _∷_, _++_, map}
-use Rattle.scope.specs.Refusals.{Name, SHORT, FORMAT, COUNTS, OFFSETS, LENGTH, ROUTINE, KIND, REGISTER, TARGET, CALLEE, NO-ROUTINE, NO-ROOM, NOT-FLAT, REGISTERS, LINE, NOT-STEADY, QUOTE, Verdict, pass, refuse}
+use Rattle.scope.specs.Refusals.{Name, SHORT, FORMAT, COUNTS, OFFSETS, LENGTH, ROUTINE, KIND, REGISTER, TARGET, CALLEE, NO-ROUTINE, NO-ROOM, NOT-FLAT, REGISTERS, LINE, NOT-STEADY, QUOTE, Verdict, pass, refuse, refusal}
 use Rattle.scope.specs.Words.{listed}
 use Rattle.scope.specs.Book.{book-verdict, read-verdict}
 use Rattle.scope.specs.Flattening.{flatten-verdict}
@@ -22,7 +22,7 @@ record Row : Type 0 where
   expected : Verdict
 
 abbrev _gives_at_ : Verdict → Name → ℕ → Row
-v gives n at p = record { verdict = v; expected = refuse (record { name = n; place = p }) }
+v gives n at p = record { verdict = v; expected = refuse (refusal n p) }
 
 abbrev passes : Verdict → Row
 passes v = record { verdict = v; expected = pass }

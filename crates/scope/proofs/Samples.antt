@@ -2,7 +2,7 @@
 -- Each side is a list of cases with every field in it, and the checker works them out. Assumes nothing.
 use mathlib.Core.Path.{_≡_, refl}
 use mathlib.Core.List.{[], _∷_, map}
-use Rattle.scope.specs.Refusals.{TOO-LONG, Verdict, pass, refuse}
+use Rattle.scope.specs.Refusals.{TOO-LONG, Verdict, pass, refuse, refusal}
 use Rattle.scope.specs.Book.{book-of}
 use Rattle.scope.specs.Flattening.{flat-length, flattens-verdict}
 use Rattle.scope.specs.Cases.{worked-out}
@@ -10,7 +10,7 @@ use Rattle.scope.specs.Samples.{samples, book-H, book-H-one-more}
 use Rattle.scope.proofs.Computed.{computed}
 
 abbrev too-long : Verdict
-too-long = refuse (record { name = TOO-LONG; place = 0 })
+too-long = refuse (refusal TOO-LONG 0)
 
 pub samples-hold : map worked-out samples ≡ samples
 unfolding computed

@@ -11,13 +11,14 @@ use lib.Arith.{digits-div, digits-mod}
 use Rattle.scope.specs.Words.{if, listed}
 use Rattle.scope.specs.Ram as ram
 use Rattle.scope.specs.Ram.{Instruction, Program, has, Target-within, Targets-within}
-use Rattle.scope.specs.Book.{the-format, most-lines, header-bytes, byte, two-byte, two-bytes, two-bytes-each, format, routines, lines, routine-table, line-table, stated-length, line-table-due, length-due, first-line, count, first-line-due, INC, DEC, GO-TO, fields-of, line-offset, fields-at, line-number, fields-in, Taken}
+use Rattle.scope.specs.Book.{the-format, most-lines, header-bytes, byte, Bytes, two-byte, two-bytes, two-bytes-each, format, routines, lines, routine-table, line-table, stated-length, line-table-due, length-due, first-line, count, first-line-due, INC, DEC, GO-TO, fields-of, line-offset, fields-at, line-number, fields-in, Taken}
 use Rattle.scope.specs.Flattening.{bytes-of-fields, as-line, bytes-of-program, flat-book, flat-book-bytes}
 use Rattle.scope.specs.Given.{Short, Wrong-format, Wrong-counts, Wrong-offsets, Wrong-length, Wrong-entry, Wrong-end, Wrong-kind, Zero-stands, Wrong-register, Has-target, Wrong-target, Has-callee, Wrong-callee, Good-line, Good-in, Good-book}
-use Rattle.scope.specs.FlatBook.{Fits-a-book, Says, Bytes}
+use Rattle.scope.specs.FlatBook.{Fits-a-book, Says}
 use Rattle.scope.specs.Transitions.{Register-within, Registers-within}
 use Rattle.scope.specs.Steps.{register-count}
 use Rattle.scope.specs.Running.{instruction-of, program-of}
+use Rattle.scope.proofs.Ram.{has-later}
 use Rattle.scope.proofs.Lists.{nothing-stands, listed-is}
 use Rattle.scope.proofs.GivenExactlyWhen.{taken-exactly-when}
 use Rattle.scope.proofs.TakenBook.{taken-book}
@@ -88,6 +89,53 @@ four-a-line (y ∷ P) (suc i) q m e h =
 written-byte : (P : Program) (i : ℕ) {x : Instruction} {rest : Program} (q m : ℕ) → drop i P ≡ x ∷ rest → q ≡ 16 + 4 * i + m
     → byte (flat-book P) q ≡ getD (bytes-of-program (x ∷ rest)) m 0
 written-byte P i q m e h = behind-the-front P q (4 * i + m) (omega arith) ∙ four-a-line P i (4 * i + m) m e refl
+
+-- ---- what is written are bytes
+
+data All-bytes : List ℕ → Type 0 where
+  none : All-bytes []
+  one-more : {x : ℕ} {xs : List ℕ} → x < 256 → All-bytes xs → All-bytes (x ∷ xs)
+
+are-bytes : {xs : List ℕ} → All-bytes xs → Bytes xs
+unfolding Bytes byte
+are-bytes none i h = absurd (omega arith)
+are-bytes (one-more x all) zero h = x
+are-bytes (one-more x all) (suc i) h = are-bytes all i (omega arith)
+
+both-bytes : {xs ys : List ℕ} → All-bytes xs → All-bytes ys → All-bytes (xs ++ ys)
+both-bytes none more = more
+both-bytes (one-more x all) more = one-more x (both-bytes all more)
+
+two-more : (n : ℕ) {xs : List ℕ} → All-bytes xs → All-bytes (two-bytes n ++ xs)
+unfolding two-bytes
+two-more n all = one-more {x = n % 256} (omega arith) (one-more {x = n / 256 % 256} (omega arith) all)
+
+numbers-are-bytes : (ns : List ℕ) → All-bytes (two-bytes-each ns)
+unfolding two-bytes-each
+numbers-are-bytes [] = none
+numbers-are-bytes (n ∷ ns) = two-more n (numbers-are-bytes ns)
+
+small-fields :
+    (x : Instruction) → Register-within register-count x
+    → (fields-of (as-line x) .kind < 256) × (fields-of (as-line x) .register < 256)
+unfolding Register-within fields-of as-line
+small-fields (ram.INC j) r = (omega arith, omega arith)
+small-fields (ram.DEC j l) r = (omega arith, omega arith)
+small-fields (ram.GO-TO l) r = (omega arith, omega arith)
+
+lines-are-bytes : (P : Program) → Registers-within register-count P → All-bytes (bytes-of-program P)
+unfolding bytes-of-program bytes-of-fields two-bytes Registers-within
+lines-are-bytes [] h = none
+lines-are-bytes (x ∷ P) h =
+    let small = small-fields x (h 0 x (has refl)) in
+    let rest = lines-are-bytes P (λ i y s. h (suc i) y (has-later s)) in
+    one-more (small .0) (one-more (small .1) (two-more (fields-of (as-line x) .operand) rest))
+
+written-are-bytes : (P : Program) → Registers-within register-count P → Bytes (flat-book P)
+unfolding flat-book
+written-are-bytes P h = are-bytes (both-bytes (both-bytes (numbers-are-bytes _) (numbers-are-bytes _)) (lines-are-bytes P h))
+
+-- ---- what is read is what was written
 
 -- What is read at line i is what was written there.
 fields-written : (P : Program) (i : ℕ) {x : Instruction} {rest : Program} → length P ≤ most-lines → drop i P ≡ x ∷ rest
@@ -192,6 +240,7 @@ module _ (P : Program) (fits : Fits-a-book P) where
       let same : k ≡ j = omega arith in
       rw (same, read-at j e) (instruction-again x)) in
       record {
+        bytes = written-are-bytes P (fits .ours .registers-within);
         taken = t;
         one-routine = f .routines-1;
         as-many-lines = f .lines-n;

@@ -36,6 +36,10 @@ last-register = 31
 unfoldable pub byte : List ℕ → ℕ → ℕ
 byte b i = getD b i 0
 
+-- Bytes are numbers below 256. (Tests and answers are said of any list of numbers.)
+unfoldable pub Bytes : List ℕ → Type 0
+Bytes b = (i : ℕ) → i < length b → byte b i < 256
+
 -- All two-byte numbers have the low byte first.
 unfoldable pub two-byte : List ℕ → ℕ → ℕ
 two-byte b i = byte b i + 256 * byte b (i + 1)

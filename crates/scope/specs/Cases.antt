@@ -5,7 +5,7 @@ use Prim.Native.String.{String}
 use mathlib.Core.List.{List, [], _∷_, _++_, map}
 use lib.ListN.{length}
 use Rattle.scope.specs.Words.{_below_, if, listed}
-use Rattle.scope.specs.Refusals.{NOT-STEADY, QUOTE, Answer, refused, accepted}
+use Rattle.scope.specs.Refusals.{NOT-STEADY, QUOTE, Answer, refused, accepted, refusal}
 use Rattle.scope.specs.Book.{two-bytes, two-bytes-each, book-of}
 use Rattle.scope.specs.Steps.{register-count, Registers, with-value, Outcome}
 use Rattle.scope.specs.Nested.{nested-run}
@@ -139,7 +139,7 @@ cases-of [] = []
 cases-of (t ∷ ts) = map (case-of t) (t .runs) ++ cases-of ts
 
 unfoldable pub not-steady : Answer ℕ
-not-steady = refused (record { name = NOT-STEADY; place = 0 })
+not-steady = refused (refusal NOT-STEADY 0)
 
 unfoldable pub quote-too-high : Answer ℕ
-quote-too-high = refused (record { name = QUOTE; place = 0 })
+quote-too-high = refused (refusal QUOTE 0)

@@ -6,7 +6,7 @@ use mathlib.Core.Path.{_≡_}
 use mathlib.Core.Logic.{_≢_, _⊎_}
 use mathlib.Core.List.{List}
 use lib.ListN.{length}
-use Rattle.scope.specs.Refusals.{Name, SHORT, FORMAT, COUNTS, OFFSETS, LENGTH, ROUTINE, KIND, REGISTER, TARGET, CALLEE, Refusal}
+use Rattle.scope.specs.Refusals.{SHORT, FORMAT, COUNTS, OFFSETS, LENGTH, ROUTINE, KIND, REGISTER, TARGET, CALLEE, Refusal, refusal}
 use Rattle.scope.specs.Book.{the-format, most-routines, most-lines, header-bytes, last-register, format, routines, lines, routine-table, line-table, stated-length, line-table-due, length-due, first-line, count, first-line-due, Line-fields, INC-kind, DEC-kind, GO-TO-kind, CALL-kind, REPEAT-kind, line-number, fields-in}
 
 -- | No. | Name | Given exactly when |
@@ -135,9 +135,6 @@ Past-REGISTER b r j = Past-KIND b r j × (¬ Wrong-register (fields-in b r j))
 
 unfoldable pub Past-TARGET : List ℕ → (r j : ℕ) → Type 0
 Past-TARGET b r j = Past-REGISTER b r j × (¬ Wrong-target (fields-in b r j) (count b r))
-
-abbrev pub refusal : Name → (place : ℕ) → Refusal
-refusal n p = record { name = n; place = p }
 
 -- What is given for a book: the first of 1 to 10 that is wrong. A refusal carries its place: the routine for 6 (the lowest whose entry is
 -- wrong; the last also if it doesn't end at L), the line counted over the whole book for 7 to 10, else 0.

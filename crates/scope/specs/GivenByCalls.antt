@@ -5,12 +5,12 @@ use mathlib.Core.Bool.{true, false}
 use mathlib.Core.Path.{_≡_}
 use mathlib.Core.List.{List}
 use lib.ListN.{length}
-use Rattle.scope.specs.Refusals.{SHORT, LENGTH, DEPTH, NO-ROUTINE, TOO-LONG, NO-ROOM, NOT-FLAT, REGISTERS, LINE, NOT-STEADY, QUOTE, Refusal}
+use Rattle.scope.specs.Refusals.{SHORT, LENGTH, DEPTH, NO-ROUTINE, TOO-LONG, NO-ROOM, NOT-FLAT, REGISTERS, LINE, NOT-STEADY, QUOTE, Refusal, refusal}
 use Rattle.scope.specs.Book.{routines, lines, count, Taken, book-of}
 use Rattle.scope.specs.Flattening.{flat-length, flat-book-bytes, most-flat-lines, most-open, depth}
 use Rattle.scope.specs.Quote.{steady, quote, most-quote}
 use Rattle.scope.specs.Shop.{trailer-length, book-read, routine-read, most-input}
-use Rattle.scope.specs.Given.{refusal, Given}
+use Rattle.scope.specs.Given.{Given}
 
 -- Then: reading 12, 17; ..
 pub data Given-reading (b : List ℕ) (r j : ℕ) : Refusal → Type 0 where

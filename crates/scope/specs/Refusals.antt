@@ -37,6 +37,10 @@ pub record Refusal : Type 0 where
   pub name : Name
   pub place : ℕ
 
+-- Every refusal is made here.
+abbrev pub refusal : Name → (place : ℕ) → Refusal
+refusal n p = record { name = n; place = p }
+
 -- What a row of tests comes to: nothing is wrong, or the refusal that is given.
 pub data Verdict : Type 0 where
   pass : Verdict
@@ -47,7 +51,7 @@ pub data Verdict : Type 0 where
 --     refuse-if (.. is wrong) NAME place otherwise
 --     pass
 abbrev pub refuse-if : Bool → Name → ℕ → Verdict → Verdict
-refuse-if wrong n p rest = if wrong (refuse (record { name = n; place = p })) rest
+refuse-if wrong n p rest = if wrong (refuse (refusal n p)) rest
 
 abbrev pub _otherwise_ : (Verdict → Verdict) → Verdict → Verdict
 test otherwise rest = test rest
