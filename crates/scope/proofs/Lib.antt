@@ -24,6 +24,7 @@ pub mod Lowest
 pub mod FlatLines
 pub mod Moves
 pub mod Places
+pub mod Lockstep
 pub mod Simulation
 pub mod Steady
 pub mod QuoteEnough

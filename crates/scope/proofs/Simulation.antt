@@ -1,60 +1,28 @@
 -- From line 0 the flat run ends as the nested reading says: outcome, steps, registers, and the line is the address of the place reached.
 -- At a place reached, the flat line at its address does the nested step and leads to the next place's address; so they go in lockstep.
-use Prim.Native.Nat.{ℕ, zero, suc, _+_}
+use Prim.Native.Nat.{ℕ, suc, _+_}
 use native.Mathlib.Omega.{arith}
-use mathlib.Core.Bool.{Bool, true, false}
 use mathlib.Core.Path.{_≡_, refl, sym, _∙_}
 use mathlib.Core.List.{List, [], _∷_, _++_, append-nil}
 use lib.ListN.{drop}
 use lib.Seq.{drop-length}
-use Rattle.scope.specs.Words.{_is_, if}
 use Rattle.scope.specs.Ram as ram
 use Rattle.scope.specs.Ram.{Program}
 use Rattle.scope.specs.Book.{Line, INC, DEC, GO-TO, Book, routine, Callees-below}
-use Rattle.scope.specs.Steps.{top, Registers, value, with-value, Next, at-the-end, before-full, goes-to, adds-one, takes-one-from, takes-one-off, Outcome, FINISHED, OUT-OF-STEPS, FULL, end, run-on, run-from}
+use Rattle.scope.specs.Steps.{Registers}
 use Rattle.scope.specs.Nested.{Opened-by, a-CALL, a-REPEAT, Place, due, settle, nested-step, nested-next, nested-run}
 use Rattle.scope.specs.Flattening.{line-length, flat-length, start, copy-line, copy, flat-program}
 use Rattle.scope.specs.Running.{flat-step, flat-next, flat-run}
 use Rattle.scope.specs.Addresses.{begins, behind-its-start, address, Same-end}
 use Rattle.scope.proofs.FlatLines.{length-copy, length-flat-program, first-start, next-start, Stands, front-stands, rest-stands, line-stands}
+use Rattle.scope.proofs.Lockstep.{Same-next, both-at-the-end, both-go, both-add-one, both-take-one-off, lockstep}
 use Rattle.scope.proofs.Places.{does-inc, does-dec, does-go-to, does-look, does-go-back, Is-open, the-asked, called, repeated, Reached, the-end, a-step, Reached-at, settle-keeps-address}
 
-module _ (book : Book) (asked : ℕ) where
-  -- The flat machine and the nested reading do the same next.
-  data Same-next : Next ℕ → Next Place → Type 0 where
-    both-at-the-end : Same-next at-the-end at-the-end
-    both-before-full : {r : ℕ} → Same-next (before-full r) (before-full r)
-    both-go : {p : ℕ} {place : Place} {rs : Registers} → Reached-at book asked place p → Same-next (goes-to p rs) (goes-to place rs)
-
-  both-add-one :
-      {p : ℕ} {place : Place} (r : ℕ) (rs : Registers) → Reached-at book asked place p → Same-next (adds-one r rs p) (adds-one r rs place)
-  unfolding adds-one if
-  both-add-one {p} {place} r rs g = by-test (value rs r is top)
-    where
-      ss : Registers
-      ss = with-value rs r (suc (value rs r))
-
-      by-test : (full : Bool) → Same-next (if full (before-full r) (goes-to p ss)) (if full (before-full r) (goes-to place ss))
-      by-test true = both-before-full
-      by-test false = both-go g
-
-  both-take-one-off :
-      {p q : ℕ} {on target : Place} (r : ℕ) (rs : Registers) → Reached-at book asked on p → Reached-at book asked target q
-      → Same-next (takes-one-off r rs p q) (takes-one-off r rs on target)
-  unfolding takes-one-off takes-one-from
-  both-take-one-off {p} {q} {on} {target} r rs g h = by-value (value rs r)
-    where
-      by-value : (v : ℕ) → Same-next (takes-one-from v r rs p q) (takes-one-from v r rs on target)
-      by-value zero = both-go h
-      by-value (suc v) = both-go g
-
-  same-end-here :
-      (o : Outcome) (done p : ℕ) (rs : Registers) (place : Place) → Reached-at book asked place p
-      → Same-end book asked (end o done p rs) (end o done place rs)
-  same-end-here o done p rs place g =
-      record { same-outcome = refl; same-steps = refl; same-registers = refl; line-is-address = sym (g .its-address) }
-
 module _ (book : Book) (ok : Callees-below book) (asked : ℕ) where
+  -- A flat line corresponds to a place of the nested reading that is reached and has it as address.
+  abbrev Stands-for : ℕ → Place → Type 0
+  Stands-for p place = Reached-at book asked place p
+
   -- the flat program of the asked routine, and what a REPEAT leaves at p over routine c
   abbrev flat : Program
   flat = flat-program book asked
@@ -98,20 +66,20 @@ module _ (book : Book) (ok : Callees-below book) (asked : ℕ) where
 
   same-next-at :
       {place : Place} (p : ℕ) (rs : Registers) → Reached book asked place → address book asked place ≡ p
-      → Same-next book asked (flat-next flat p rs) (nested-next book place rs)
+      → Same-next Stands-for (flat-next flat p rs) (nested-next book place rs)
   unfolding address behind-its-start nested-next nested-step copy-line flat-step line-length flat-next begins
   same-next-at p rs the-end a = rw (sym a ∙ sym (length-flat-program book asked), drop-length flat) both-at-the-end
   same-next-at {place = due d k i around} p rs (a-step e (does-inc {r = r}) o) a =
-      rw (flat-next-there rs (ram.INC r) [] (left-stands i p e o (omega arith))) (both-add-one book asked r rs (goes-on i (suc p) e o (omega arith)))
+      rw (flat-next-there rs (ram.INC r) [] (left-stands i p e o (omega arith))) (both-add-one Stands-for r rs (goes-on i (suc p) e o (omega arith)))
   same-next-at {place = due d k i around} p rs (a-step e (does-dec {r = r} {t = t}) o) a =
       rw (flat-next-there rs (ram.DEC r (begins book around + start book k t)) [] (left-stands i p e o (omega arith)))
-      (both-take-one-off book asked r rs (goes-on i (suc p) e o (omega arith)) (settle-keeps-address book ok asked k t around o refl))
+      (both-take-one-off Stands-for r rs (goes-on i (suc p) e o (omega arith)) (settle-keeps-address book ok asked k t around o refl))
   same-next-at {place = due d k i around} p rs (a-step e (does-go-to {t = t}) o) a =
       rw (flat-next-there rs (ram.GO-TO (begins book around + start book k t)) [] (left-stands i p e o (omega arith)))
       (both-go (settle-keeps-address book ok asked k t around o refl))
   same-next-at {place = due d k i around} p rs (a-step e (does-look {r = r} {c = c}) o) a =
       rw (flat-next-there rs (ram.DEC r (p + flat-length book c + 2)) (copy book c (p + 1) ++ (ram.GO-TO p ∷ [])) (left-stands i p e o (omega arith)))
-      (both-take-one-off book asked r rs
+      (both-take-one-off Stands-for r rs
       (settle-keeps-address book ok asked c 0 (a-REPEAT k i ∷ around) (repeated e o) (omega (arith, first-start book c)))
       (goes-on i (p + flat-length book c + 2) e o (omega arith)))
   same-next-at {place = due d k i around} p rs (a-step e (does-go-back {r = r} {c = c}) o) a =
@@ -120,23 +88,20 @@ module _ (book : Book) (ok : Callees-below book) (asked : ℕ) where
       let t = rest-stands (copy book c (q + 1)) (ram.GO-TO q ∷ []) p s (omega (arith, length-copy book c (q + 1))) in
       rw (flat-next-there rs (ram.GO-TO q) [] t) (both-go (settle-keeps-address book ok asked k i around o refl))
 
-  same-end-on :
-      (left done p : ℕ) (rs : Registers) (place : Place) {next : Next ℕ} {nested : Next Place} → Reached-at book asked place p
-      → Same-next book asked next nested
-      → Same-end book asked (run-on (flat-next flat) left done p rs next) (run-on (nested-next book) left done place rs nested)
-  unfolding run-on
-  same-end-on zero done p rs place g both-at-the-end = same-end-here book asked FINISHED done p rs place g
-  same-end-on zero done p rs place g both-before-full = same-end-here book asked OUT-OF-STEPS done p rs place g
-  same-end-on zero done p rs place g (both-go h) = same-end-here book asked OUT-OF-STEPS done p rs place g
-  same-end-on (suc left) done p rs place g both-at-the-end = same-end-here book asked FINISHED done p rs place g
-  same-end-on (suc left) done p rs place g (both-before-full {r = r}) = same-end-here book asked (FULL r) done p rs place g
-  same-end-on (suc left) done p rs place g (both-go {p = p′} {place = place′} {rs = rs′} h) =
-      same-end-on left (suc done) p′ rs′ place′ h (same-next-at p′ rs′ (h .reached) (h .its-address))
+  same-next :
+      (p : ℕ) (place : Place) (rs : Registers) → Stands-for p place → Same-next Stands-for (flat-next flat p rs) (nested-next book place rs)
+  same-next p place rs at-p = same-next-at p rs (at-p .reached) (at-p .its-address)
 
   -- Demand 3: for every book whose callees lie below their callers, every routine, of any flat length, all registers, every budget.
   pub simulation : (budget : ℕ) (rs : Registers) → Same-end book asked (flat-run flat 0 budget rs) (nested-run book asked budget rs)
-  unfolding flat-run nested-run run-from begins
+  unfolding flat-run nested-run begins
   simulation budget rs =
-      let g : Reached-at book asked (settle book asked 0 []) 0 =
+      let first : Stands-for 0 (settle book asked 0 []) =
       settle-keeps-address book ok asked asked 0 [] the-asked (omega (arith, first-start book asked)) in
-      same-end-on budget 0 0 rs (settle book asked 0 []) g (same-next-at 0 rs (g .reached) (g .its-address))
+      let same = lockstep Stands-for (flat-next flat) (nested-next book) same-next budget 0 (settle book asked 0 []) rs first in
+      record {
+        same-outcome = same .same-outcome;
+        same-steps = same .same-steps;
+        same-registers = same .same-registers;
+        line-is-address = sym (same .places-correspond .its-address);
+      }
