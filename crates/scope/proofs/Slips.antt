@@ -30,10 +30,15 @@ pub target-is-moved-by-length :
 unfolding computed
 target-is-moved-by-length = refl
 
--- FULL or OUT OF STEPS reported at the end line: the register is at 65,535 there, and the budget is used up. (So 65,534 is not full.)
-pub end-line-is-FINISHED : flat-run (ram.INC 0 ∷ []) 0 1 (65534 ∷ []) ≡ end FINISHED 1 1 (65535 ∷ [])
+-- FULL reported at the end line: the register is at 65,535 there, and budget is left. ..
+pub end-line-is-not-FULL : flat-run (ram.INC 0 ∷ []) 0 2 (65534 ∷ []) ≡ end FINISHED 1 1 (65535 ∷ [])
 unfolding computed
-end-line-is-FINISHED = refl
+end-line-is-not-FULL = refl
+
+-- .. or OUT OF STEPS: the budget is used up there.
+pub end-line-is-not-OUT-OF-STEPS : flat-run (ram.INC 0 ∷ []) 0 1 (0 ∷ []) ≡ end FINISHED 1 1 (1 ∷ [])
+unfolding computed
+end-line-is-not-OUT-OF-STEPS = refl
 
 -- A step charged for entering a routine, which an empty one shows at once.
 pub entering-is-no-step : nested-run ([] ∷ (CALL 0 ∷ []) ∷ []) 1 0 [] ≡ end FINISHED 0 ended []
@@ -65,3 +70,8 @@ DEC-on-0-jumps = refl
 pub budget-before-FULL : flat-run (ram.INC 0 ∷ []) 0 0 (65535 ∷ []) ≡ end OUT-OF-STEPS 0 0 (65535 ∷ [])
 unfolding computed
 budget-before-FULL = refl
+
+-- INC of a register at 65,534 is done.
+pub 65534-is-not-full : flat-run (ram.INC 0 ∷ ram.INC 1 ∷ []) 0 1 (65534 ∷ 0 ∷ []) ≡ end OUT-OF-STEPS 1 1 (65535 ∷ 0 ∷ [])
+unfolding computed
+65534-is-not-full = refl
