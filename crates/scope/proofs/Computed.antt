@@ -1,5 +1,5 @@
--- Every definition of specs/ that computes, opened by one name: `unfolding computed`.
--- A case is then proved by `refl`, because the checker works out both sides. Assumes nothing.
+-- One name for every definition of specs/ that a worked-out case goes through.
+-- A case that opens it is worked out on both sides, down to numbers. Assumes nothing.
 use Rattle.scope.specs.Words.{if, listed}
 use Rattle.scope.specs.Refusals.{number, _and-then_, first, answer-of, left-of, call-of}
 use Rattle.scope.specs.Book.{byte, two-byte, two-bytes, two-bytes-each, format, routines, lines, routine-table, line-table, stated-length, line-table-due, length-due, counts-wrong, offsets-wrong, header-test, header-verdict, first-line, count, first-line-due, entry-verdict, table-verdict, fields-of, line-of, kind-wrong, register-wrong, target-wrong, callee-wrong, line-test, line-offset, fields-at, line-number, fields-in, line-verdict, routine-verdict, lines-verdict, book-verdict, routine, routine-of, book-of, used, said-below, from-the-lowest-up, check-answer, read-verdict, read-answer}

@@ -1,5 +1,5 @@
 -- What stands in a list at a place: nothing in the empty list, behind a member the rest; and lists by the rule of their members.
--- Each by the members; places are given as sums, so that nothing has to compute. Assumes nothing.
+-- Each by the members of the list. Assumes nothing.
 use Prim.Native.Nat.{ℕ, zero, suc, _+_, _<_}
 use native.Mathlib.Omega.{arith}
 use mathlib.Core.Path.{_≡_, refl, sym, _∙_, ap}

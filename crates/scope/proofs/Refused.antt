@@ -1,11 +1,11 @@
 -- Each number of refusal but 11 is given by some call: sample A with other bytes, small books, or a wrong question.
--- (13 is sample H's.) The checker works out both columns; the right one is typed from document 01's table and "Order". Assumes nothing.
+-- (13 is sample H's.) Both columns are worked out; the right one is typed from document 01's table and "Order". Assumes nothing.
 use Prim.Native.Nat.{ℕ}
 use Prim.Native.String.{String}
 use mathlib.Core.Bool.{true, false}
 use mathlib.Core.Path.{_≡_, refl}
 use mathlib.Core.List.{List, [], _∷_, _++_, map}
-use Rattle.scope.specs.Refusals.{Name, SHORT, FORMAT, COUNTS, OFFSETS, LENGTH, ROUTINE, KIND, REGISTER, TARGET, CALLEE, NO-ROUTINE, NO-ROOM, NOT-FLAT, REGISTERS, LINE, NOT-STEADY, QUOTE, Verdict, pass, refuse, refusal}
+use Rattle.scope.specs.Refusals.{Name, number, SHORT, FORMAT, COUNTS, OFFSETS, LENGTH, ROUTINE, KIND, REGISTER, TARGET, CALLEE, DEPTH, NO-ROUTINE, TOO-LONG, NO-ROOM, NOT-FLAT, REGISTERS, LINE, NOT-STEADY, QUOTE, Verdict, pass, refuse, refusal}
 use Rattle.scope.specs.Words.{listed}
 use Rattle.scope.specs.Book.{book-verdict, read-verdict}
 use Rattle.scope.specs.Flattening.{flatten-verdict}
@@ -104,7 +104,7 @@ abbrev quoted : String → Verdict
 quoted lines = quote-verdict (hex "01 00 03 00 03 00 0C 00 18 00 24 00, 00 00 01 00, 01 00 01 00, 02 00 01 00" ++ hex lines) 2
 
 -- 18: a jump to its own line, also one that is called; a REPEAT whose register is named under the repeated routine, by INC or by REPEAT.
--- GO TO has 0 in the register's byte and names nothing, and a routine that is not used does no harm.
+-- GO TO and CALL have 0 in the register's byte and name nothing, and a routine that is not used does no harm.
 steady-rows : List Row
 steady-rows =
     (quoted "01 00 00 00, 01 00 00 00, 02 01 00 00" gives NOT-STEADY at 0)
@@ -114,6 +114,7 @@ steady-rows =
     ∷ passes (quoted "01 01 00 00, 05 02 00 00, 05 00 01 00")
     ∷ passes (quoted "03 00 01 00, 05 00 00 00, 04 00 01 00")
     ∷ passes (quoted "03 00 00 00, 01 00 00 00, 04 00 01 00")
+    ∷ passes (quoted "01 01 00 00, 04 00 00 00, 05 00 01 00")
     ∷ []
 
 abbrev rows : List Row
@@ -123,3 +124,12 @@ rows = book-rows ++ line-rows ++ call-rows ++ steady-rows
 refusals-hold : map (λ r. r .verdict) rows ≡ map (λ r. r .expected) rows
 unfolding computed book-rows line-rows call-rows steady-rows
 refusals-hold = refl
+
+-- The table's numbers go with its names, in its order.
+pub numbers-as-in-the-table :
+    map number
+    (SHORT ∷ FORMAT ∷ COUNTS ∷ OFFSETS ∷ LENGTH ∷ ROUTINE ∷ KIND ∷ REGISTER ∷ TARGET ∷ CALLEE ∷ DEPTH ∷ NO-ROUTINE ∷ TOO-LONG ∷ NO-ROOM
+    ∷ NOT-FLAT ∷ REGISTERS ∷ LINE ∷ NOT-STEADY ∷ QUOTE ∷ [])
+    ≡ listed (λ i. i) 1 19
+unfolding computed
+numbers-as-in-the-table = refl

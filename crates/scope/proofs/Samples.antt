@@ -1,5 +1,5 @@
 -- The samples of document 01 hold: what the definitions say of each case is what the paper says of it.
--- Each side is a list of cases with every field in it, and the checker works them out. Assumes nothing.
+-- Each side is a list of cases with every field in it, and both are worked out. Assumes nothing.
 use mathlib.Core.Path.{_≡_, refl}
 use mathlib.Core.List.{[], _∷_, map}
 use Rattle.scope.specs.Refusals.{TOO-LONG, Verdict, pass, refuse, refusal}

@@ -1,5 +1,5 @@
 -- The numbers that document 01 works out itself are what its rules give.
--- Each is a sum of the other numbers of the paper, so the checker works it out. Assumes nothing.
+-- Each is a sum of the other numbers of the paper, and is worked out. Assumes nothing.
 use Prim.Native.Nat.{ℕ, _+_, _*_}
 use mathlib.Core.Path.{_≡_, refl}
 use native.Mathlib.Omega.{arith}

@@ -1,5 +1,5 @@
 -- Document 01, "Slips we have made or seen": for each slip, and for some more, a small book or program that would show it.
--- The checker works out both sides, so a definition that makes the slip makes the statement false. Assumes nothing.
+-- Both sides are worked out, so a definition that makes the slip makes the statement false. Assumes nothing.
 use Prim.Native.Nat.{ℕ}
 use mathlib.Core.Path.{_≡_, refl}
 use mathlib.Core.List.{List, [], _∷_}

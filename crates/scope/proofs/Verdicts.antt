@@ -240,6 +240,16 @@ unfolding answer-of
 refused-exactly-when pass values x = (λ e. absurd (accepted-is-not-refused e), λ e. absurd (pass-is-no-refusal e))
 refused-exactly-when (refuse y) values x = (λ e. cc, λ e. cc)
 
+pub accepted-where-passed : {A : Type 0} {v : Verdict} (values : A) → v ≡ pass → answer-of v values ≡ accepted values
+unfolding answer-of
+accepted-where-passed values e = rw e
+
+pub call-where-passed :
+    {A L : Type 0} {v : Verdict} (values : A) (written lent : L) → v ≡ pass
+    → call-of v values written lent ≡ record { answer = accepted values; left = written }
+unfolding call-of answer-of left-of
+call-where-passed values written lent e = rw e
+
 -- Nothing is written and no step is counted.
 pub refusal-writes-nothing :
     {A L : Type 0} {v : Verdict} {x : Refusal} (values : A) (written lent : L) → v ≡ refuse x
