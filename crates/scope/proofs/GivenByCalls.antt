@@ -233,6 +233,10 @@ bench-refuses b line x (bench-the-book g) = the-book-refuses _ g
 bench-refuses b line x (bench-NOT-FLAT t h) = then-goes-on _ t ∙ refuses _ _ (not-flat-tells b) h
 bench-refuses b line x (bench-LINE t h l) = then-goes-on _ t ∙ goes-on _ _ (not-flat-tells b) h ∙ refuses _ _ (past-the-end-tells b line) l
 
+pub bench-passes : (b : List ℕ) (line : ℕ) → Taken b → routines b ≤ 1 → line ≤ lines b → bench-verdict b line ≡ pass
+unfolding bench-verdict
+bench-passes b line t h l = then-goes-on _ t ∙ goes-on _ _ (not-flat-tells b) h ∙ goes-on _ _ (past-the-end-tells b line) l
+
 pub bench-given-exactly-when : (b : List ℕ) (line : ℕ) (x : Refusal) → (bench-verdict b line ≡ refuse x) ↔ Given-bench b line x
 bench-given-exactly-when b line x = (bench-gives b line x, bench-refuses b line x)
 

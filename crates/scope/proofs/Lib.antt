@@ -19,6 +19,7 @@ pub mod Ram
 pub mod StepIsRam
 pub mod RunExactly
 pub mod TakenProgram
+pub mod RunAnswers
 -- the flat run ends as the nested reading says, and the quote is enough
 pub mod Lowest
 pub mod FlatLines

@@ -4,9 +4,10 @@ use Prim.Native.Nat.{ℕ, suc, _≤_, _<_}
 use mathlib.Core.Path.{_≡_}
 use mathlib.Core.Logic.{_≢_, _↔_}
 use lib.ListN.{length, getD}
+use Rattle.scope.specs.Refusals.{accepted, Call}
 use Rattle.scope.specs.Ram.{Instruction, INC, DEC, GO-TO, Program, Has, Targets-within, Configuration, Final, Goes-to}
 use Rattle.scope.specs.Steps.{register-count, top, Registers, Values-within, at-the-end, before-full, goes-to, Outcome, FINISHED, OUT-OF-STEPS, FULL, End}
-use Rattle.scope.specs.Running.{flat-next}
+use Rattle.scope.specs.Running.{flat-next, Ran, ran, State, state}
 
 -- ---- our machine among the source's
 
@@ -78,3 +79,11 @@ pub record Run-ends (P : Program) (beyond : ℕ → ℕ) (start : ℕ) (rs : Reg
   pub leads : Leads P (e .steps) (configuration beyond start rs) (configuration beyond (e .place) (e .registers))
   pub within : e .steps ≤ budget
   pub reason : Reason P budget (e .steps) (configuration beyond (e .place) (e .registers)) (e .outcome)
+
+-- What a run that ends so answers, and leaves in the registers that it was lent.
+abbrev pub run-answering : End ℕ → Call Ran Registers
+run-answering e = record { answer = accepted (ran e); left = e .registers }
+
+-- What a bench step that ends so answers, and leaves in the state that it was lent.
+abbrev pub bench-answering : End ℕ → Call Ran State
+bench-answering e = record { answer = accepted (ran e); left = state e }
