@@ -30,6 +30,7 @@ pub mod Simulation
 pub mod Steady
 pub mod QuoteEnough
 pub mod Depth
+pub mod SteadyWords
 -- what flattening writes is a book again
 pub mod OneRoutine
 pub mod WrittenBook

@@ -41,7 +41,7 @@ not-more s false f e = refl
 -- ---- of each line
 
 -- A routine is steady if its lines are.
-line-of-steady-lines :
+pub line-of-steady-lines :
     (bad : ℕ → ℕ → Bool) (f : ℕ → Bool) {l : Line} {rest : List Line} (n i q : ℕ) (ls : List Line) → lines-steady bad f n ls ≡ true
     → drop i ls ≡ l ∷ rest → q ≡ n + i → line-steady bad f q l ≡ true
 unfolding lines-steady

@@ -38,3 +38,4 @@ pub mod Transitions
 pub mod FlatBook
 pub mod Enough
 pub mod Depth
+pub mod SteadyWords
