@@ -2,20 +2,17 @@
 -- A chain goes down in number at each use, and of the routines used the deepest is one of them. Assumes nothing.
 use Prim.Native.Nat.{ℕ, zero, suc, _+_, _≤_, _<_, max}
 use mathlib.Core.Path.{_≡_, refl}
-use mathlib.Core.Logic.{_≢_}
 use mathlib.Core.List.{List, [], _∷_}
 use native.Mathlib.Omega.{arith}
 use native.Mathlib.Decide.{decLe}
 use lib.ListN.{drop}
+use Rattle.scope.specs.Words.{_above_}
 use Rattle.scope.specs.Book.{routines, Line, INC, DEC, GO-TO, CALL, REPEAT, Taken, Book, routine, book-of, used, Line-uses, by-CALL, by-REPEAT, Uses, Callees-below}
-use Rattle.scope.specs.Flattening.{most-open, deepest, depth-by, depth, flattens-verdict}
-use Rattle.scope.specs.Refusals.{DEPTH, number, Refusal, refusal, refuse}
-use Rattle.scope.specs.Given.{Given, gives-SHORT, gives-FORMAT, gives-COUNTS, gives-OFFSETS, gives-LENGTH, gives-ROUTINE, gives-ROUTINE-last, gives-KIND, gives-REGISTER, gives-TARGET, gives-CALLEE}
-use Rattle.scope.specs.GivenByCalls.{Given-to-flatten, to-flatten-the-book, to-flatten-NO-ROUTINE, to-flatten-DEPTH, to-flatten-TOO-LONG}
-use Rattle.scope.specs.Depth.{Opened, alone, around}
+use Rattle.scope.specs.Flattening.{most-open, deepest, depth-by, depth}
+use Rattle.scope.specs.Depth.{Opened, alone, around, Opens-too-many}
+use Rattle.scope.proofs.Verdicts.{Tells, in-words, above-tells}
 use Rattle.scope.proofs.Lists.{nothing-stands}
 use Rattle.scope.proofs.Lowest.{depth-by-the-rule}
-use Rattle.scope.proofs.GivenByCalls.{to-flatten-given-exactly-when}
 use Rattle.scope.proofs.TakenBook.{taken-book, taken-callees-below}
 
 -- ---- the deepest of the routines that some lines use
@@ -104,34 +101,16 @@ module _ (book : Book) (ok : Callees-below book) where
   pub depth-at-most : (a : ℕ) → depth book a ≤ suc a
   depth-at-most a = omega (arith, opens-below (depth-reached a .1))
 
+  -- The test of 11 tells whether there is a chain of more than 32.
+  pub depth-tells : (k : ℕ) → Tells (depth book k above most-open) (Opens-too-many book k) (¬ Opens-too-many book k)
+  depth-tells k =
+      in-words (above-tells (depth book k) most-open)
+      (λ deep. record { how-many = depth book k; innermost = depth-reached k .0; opened = depth-reached k .1; too-many = deep })
+      (λ low o. omega (arith, low, depth-bounds (o .opened), o .too-many))
+      (λ o n. n o)
+
 -- ---- a taken book has at most 32 routines
 
-pub no-more-than-32-open : (b : List ℕ) → Taken b → (k : ℕ) → k < routines b → depth (book-of b) k ≤ most-open
-no-more-than-32-open b t k h = omega (arith, depth-at-most (book-of b) (taken-callees-below b t) k, taken-book b t .routines-to-32)
-
--- What is given for a book is one of 1 to 10.
-of-the-book : {b : List ℕ} {x : Refusal} → Given b x → number (x .name) ≤ 10
-unfolding number
-of-the-book (gives-SHORT w) = omega arith
-of-the-book (gives-FORMAT p w) = omega arith
-of-the-book (gives-COUNTS p w) = omega arith
-of-the-book (gives-OFFSETS p w) = omega arith
-of-the-book (gives-LENGTH p w) = omega arith
-of-the-book (gives-ROUTINE r p h w) = omega arith
-of-the-book (gives-ROUTINE-last p w) = omega arith
-of-the-book (gives-KIND r j p w) = omega arith
-of-the-book (gives-REGISTER r j p w) = omega arith
-of-the-book (gives-TARGET r j p w) = omega arith
-of-the-book (gives-CALLEE r j p w) = omega arith
-
-not-11 : {b : List ℕ} {k : ℕ} {x : Refusal} → Given-to-flatten b k x → number (x .name) ≢ 11
-unfolding number
-not-11 (to-flatten-the-book g) e = omega (arith, of-the-book g, e)
-not-11 (to-flatten-NO-ROUTINE t h) e = omega (arith, e)
-not-11 {b} {k} (to-flatten-DEPTH t h d) e = omega (arith, no-more-than-32-open b t k h, d)
-not-11 (to-flatten-TOO-LONG t h d l) e = omega (arith, e)
-
--- So 11 is never given: no book earns it.
-pub DEPTH-is-never-given : (b : List ℕ) (k place : ℕ) → flattens-verdict b k ≢ refuse (refusal DEPTH place)
-unfolding number
-DEPTH-is-never-given b k place e = not-11 (to-flatten-given-exactly-when b k (refusal DEPTH place) .0 e) refl
+pub no-more-than-32-open : (b : List ℕ) → Taken b → {k n c : ℕ} → k < routines b → Opened (book-of b) k n c → n ≤ most-open
+no-more-than-32-open b t h o =
+    omega (arith, h, opens-below (book-of b) (taken-callees-below b t) o, taken-book b t .routines-to-32)

@@ -10,12 +10,15 @@ use Rattle.scope.specs.Ram.{Instruction, Program, Has, has, Target-withi
 use Rattle.scope.specs.Book.{Bytes, routines, Line, Book, routine, Callees-below, Taken, book-of}
 use Rattle.scope.specs.Flattening.{line-length, sum-of, length-by, flat-length, start, copy-line, copy-lines, copy-by, copy, flat-program, flat-book, most-flat-lines}
 use Rattle.scope.specs.FlatBook.{Fits-a-book, Says}
+use Rattle.scope.specs.GivenByCalls.{Flattens}
 use Rattle.scope.specs.Transitions.{Register-within, Registers-within}
 use Rattle.scope.specs.Steps.{register-count}
 use Rattle.scope.proofs.Lists.{nothing-stands}
 use Rattle.scope.proofs.Lowest.{flat-length-by-the-rule, copy-by-the-rule}
 use Rattle.scope.proofs.FlatLines.{length-flat-program}
-use Rattle.scope.proofs.TakenBook.{Line-fits, INC-fits, DEC-fits, GO-TO-fits, CALL-fits, REPEAT-fits, taken-lines-fit, taken-callees-below}
+use Rattle.scope.proofs.TakenBook.{Line-fits, INC-fits, DEC-fits, GO-TO-fits, CALL-fits, REPEAT-fits, taken-book, taken-lines-fit, taken-callees-below}
+use Rattle.scope.proofs.Depth.{no-more-than-32-open}
+use Rattle.scope.proofs.TakenProgram.{length-program-of}
 use Rattle.scope.proofs.OneRoutine.{flattening-changes-nothing}
 use Rattle.scope.proofs.WrittenBook.{written-says-it, writing-after-reading}
 
@@ -122,3 +125,15 @@ module _ (b : List ℕ) (t : Taken b) (k : ℕ) where
 -- Flattening routine 0 of a flat book gives back its very bytes.
 pub flat-book-is-its-own-flat-book : (b : List ℕ) → Taken b → routines b ≡ 1 → Bytes b → flat-book (flat-program (book-of b) 0) ≡ b
 flat-book-is-its-own-flat-book b t one bytes = ap flat-book (flattening-changes-nothing b t one) ∙ writing-after-reading b bytes t one
+
+-- It flattens, so this is what flattening writes.
+pub one-routine-flattens : (b : List ℕ) → Taken b → routines b ≡ 1 → Flattens b 0
+one-routine-flattens b t one =
+    let T = taken-book b t in
+    let same = ap length (flattening-changes-nothing b t one) in
+    record {
+      taken = t;
+      a-routine = omega (arith, one);
+      not-too-deep = λ o. omega (arith, no-more-than-32-open b t (T .some-routine) (o .opened), o .too-many);
+      not-too-long = omega (arith, length-flat-program (book-of b) 0, same, length-program-of b, T .lines-to-4096);
+    }

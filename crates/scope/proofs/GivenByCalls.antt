@@ -1,7 +1,7 @@
 -- Reading, flattening, quoting, running, the bench step and the shop's program are refused exactly when document 01 says so.
 -- The book's own refusals come first; then each call's tests are taken apart in their order. Assumes nothing.
 use Prim.Native.Nat.{ℕ, _<_, _≤_}
-use mathlib.Core.Bool.{Bool, true, false, not}
+use mathlib.Core.Bool.{Bool, not}
 use mathlib.Core.Path.{_≡_, _∙_}
 use mathlib.Core.Logic.{_↔_, _≢_, ⊎-elim}
 use mathlib.Core.List.{List}
@@ -15,10 +15,15 @@ use Rattle.scope.specs.Running.{run-verdict, bench-verdict}
 use Rattle.scope.specs.Quote.{steady, quote, most-quote, quote-verdict}
 use Rattle.scope.specs.Page.{registers-length}
 use Rattle.scope.specs.Shop.{trailer-length, most-input, shop-verdict}
+use Rattle.scope.specs.Depth.{Opens-too-many}
+use Rattle.scope.specs.SteadyWords.{Steady-routine}
 use Rattle.scope.specs.Given.{Given}
 use Rattle.scope.specs.GivenByCalls.{Given-reading, reading-the-book, reading-NO-ROUTINE, reading-LINE, Given-to-flatten, to-flatten-the-book, to-flatten-NO-ROUTINE, to-flatten-DEPTH, to-flatten-TOO-LONG, Flattens, Given-flattening, flattening-before, flattening-NO-ROOM, Given-quote, quote-before, quote-NOT-STEADY, quote-QUOTE, Given-running, running-the-book, running-NOT-FLAT, running-REGISTERS, running-LINE, Given-bench, bench-the-book, bench-NOT-FLAT, bench-LINE, Given-in-the-shop, shop-SHORT, shop-LENGTH, shop-before}
-use Rattle.scope.proofs.Verdicts.{Tells, no-fault, itself-tells, above-tells, below-tells, not-below-tells, is-not-tells, not-tells, pass-is-no-refusal, refuses, goes-on, which-refuses, finds-no-fault, then-goes-on, then-refuses, which-then-refuses, then-passes}
+use Rattle.scope.proofs.Verdicts.{Tells, no-fault, exactly-tells, above-tells, below-tells, not-below-tells, is-not-tells, not-tells, pass-is-no-refusal, refuses, goes-on, which-refuses, finds-no-fault, then-goes-on, then-refuses, which-then-refuses, then-passes}
 use Rattle.scope.proofs.GivenExactlyWhen.{given-exactly-when}
+use Rattle.scope.proofs.TakenBook.{taken-callees-below}
+use Rattle.scope.proofs.Depth.{depth-tells}
+use Rattle.scope.proofs.SteadyWords.{steady-exactly}
 
 -- A refusal of a call is the book's, or the book is taken and the refusal is one of the call's own tests.
 after-the-book : {b : List ℕ} {v : Verdict} {x : Refusal} (C : Refusal → Type 0) → (Given b x → C x) → (Taken b → v ≡ refuse x → C x)
@@ -59,9 +64,10 @@ reading-given-exactly-when b r j x = (reading-gives b r j x, reading-refuses b r
 -- ---- what flattening and the quote share
 
 -- 11 DEPTH: more than 32 routines open inside one another
-depth-tells :
-    (b : List ℕ) (k : ℕ) → Tells (depth (book-of b) k above most-open) (most-open < depth (book-of b) k) (depth (book-of b) k ≤ most-open)
-depth-tells b k = above-tells (depth (book-of b) k) most-open
+too-deep-tells :
+    (b : List ℕ) (k : ℕ) → Taken b
+    → Tells (depth (book-of b) k above most-open) (Opens-too-many (book-of b) k) (¬ Opens-too-many (book-of b) k)
+too-deep-tells b k t = depth-tells (book-of b) (taken-callees-below b t) k
 
 -- 13 TOO LONG: flat length above 4,096
 too-long-tells : (b : List ℕ) (k : ℕ)
@@ -74,16 +80,16 @@ to-flatten-gives b k x =
     let C = Given-to-flatten b k in
     after-the-book C to-flatten-the-book λ t.
     which-refuses C (no-routine-tells b k) (to-flatten-NO-ROUTINE t) λ h.
-    which-refuses C (depth-tells b k) (to-flatten-DEPTH t h) λ d.
+    which-refuses C (too-deep-tells b k t) (to-flatten-DEPTH t h) λ d.
     which-refuses C (too-long-tells b k) (to-flatten-TOO-LONG t h d) λ l e. absurd (pass-is-no-refusal e)
 
 to-flatten-refuses : (b : List ℕ) (k : ℕ) (x : Refusal) → Given-to-flatten b k x → flattens-verdict b k ≡ refuse x
 unfolding flattens-verdict
 to-flatten-refuses b k x (to-flatten-the-book g) = the-book-refuses _ g
 to-flatten-refuses b k x (to-flatten-NO-ROUTINE t h) = then-goes-on _ t ∙ refuses _ _ (no-routine-tells b k) h
-to-flatten-refuses b k x (to-flatten-DEPTH t h d) = then-goes-on _ t ∙ goes-on _ _ (no-routine-tells b k) h ∙ refuses _ _ (depth-tells b k) d
+to-flatten-refuses b k x (to-flatten-DEPTH t h d) = then-goes-on _ t ∙ goes-on _ _ (no-routine-tells b k) h ∙ refuses _ _ (too-deep-tells b k t) d
 to-flatten-refuses b k x (to-flatten-TOO-LONG t h d l) =
-    then-goes-on _ t ∙ goes-on _ _ (no-routine-tells b k) h ∙ goes-on _ _ (depth-tells b k) d ∙ refuses _ _ (too-long-tells b k) l
+    then-goes-on _ t ∙ goes-on _ _ (no-routine-tells b k) h ∙ goes-on _ _ (too-deep-tells b k t) d ∙ refuses _ _ (too-long-tells b k) l
 
 pub to-flatten-given-exactly-when : (b : List ℕ) (k : ℕ) (x : Refusal) → (flattens-verdict b k ≡ refuse x) ↔ Given-to-flatten b k x
 to-flatten-given-exactly-when b k x = (to-flatten-gives b k x, to-flatten-refuses b k x)
@@ -93,7 +99,7 @@ unfolding flattens-verdict
 all-pass b k e =
     let t = then-passes (book-verdict b) e in
     let h = finds-no-fault _ (no-routine-tells b k) (t .1) in
-    let d = finds-no-fault _ (depth-tells b k) (h .1) in
+    let d = finds-no-fault _ (too-deep-tells b k (t .0)) (h .1) in
     let l = finds-no-fault _ (too-long-tells b k) (d .1) in
     record { taken = t .0; a-routine = h .0; not-too-deep = d .0; not-too-long = l .0 }
 
@@ -101,7 +107,7 @@ none-refuses : (b : List ℕ) (k : ℕ) → Flattens b k → flattens-verdict b 
 unfolding flattens-verdict
 none-refuses b k f =
     then-goes-on _ (f .taken) ∙ goes-on _ _ (no-routine-tells b k) (f .a-routine)
-    ∙ goes-on _ _ (depth-tells b k) (f .not-too-deep) ∙ goes-on _ _ (too-long-tells b k) (f .not-too-long)
+    ∙ goes-on _ _ (too-deep-tells b k (f .taken)) (f .not-too-deep) ∙ goes-on _ _ (too-long-tells b k) (f .not-too-long)
 
 pub flattens-exactly-when : (b : List ℕ) (k : ℕ) → (flattens-verdict b k ≡ pass) ↔ Flattens b k
 flattens-exactly-when b k = (all-pass b k, none-refuses b k)
@@ -138,8 +144,10 @@ flattening-given-exactly-when b k room x = (flattening-gives b k room x, flatten
 -- ---- the quote
 
 -- 18 NOT STEADY: the routine is not steady
-not-steady-tells : (b : List ℕ) (k : ℕ) → Tells (not (steady (book-of b) k)) (steady (book-of b) k ≡ false) (steady (book-of b) k ≡ true)
-not-steady-tells b k = not-tells (itself-tells (steady (book-of b) k))
+not-steady-tells :
+    (b : List ℕ) (k : ℕ) → Taken b
+    → Tells (not (steady (book-of b) k)) (¬ Steady-routine (book-of b) k) (Steady-routine (book-of b) k)
+not-steady-tells b k t = not-tells (exactly-tells (steady-exactly (book-of b) (taken-callees-below b t) k))
 
 -- 19 QUOTE: quote above 2^64-1
 quote-tells :
@@ -152,15 +160,15 @@ unfolding quote-verdict
 quote-gives b k x =
     let C = Given-quote b k in
     after-these b k C quote-before λ f.
-    which-refuses C (not-steady-tells b k) (quote-NOT-STEADY f) λ s.
+    which-refuses C (not-steady-tells b k (f .taken)) (quote-NOT-STEADY f) λ s.
     which-refuses C (quote-tells b k) (quote-QUOTE f s) λ n e. absurd (pass-is-no-refusal e)
 
 quote-refuses : (b : List ℕ) (k : ℕ) (x : Refusal) → Given-quote b k x → quote-verdict b k ≡ refuse x
 unfolding quote-verdict
 quote-refuses b k x (quote-before g) = then-refuses _ (to-flatten-refuses b k x g)
-quote-refuses b k x (quote-NOT-STEADY f s) = then-goes-on _ (none-refuses b k f) ∙ refuses _ _ (not-steady-tells b k) s
+quote-refuses b k x (quote-NOT-STEADY f s) = then-goes-on _ (none-refuses b k f) ∙ refuses _ _ (not-steady-tells b k (f .taken)) s
 quote-refuses b k x (quote-QUOTE f s q) =
-    then-goes-on _ (none-refuses b k f) ∙ goes-on _ _ (not-steady-tells b k) s ∙ refuses _ _ (quote-tells b k) q
+    then-goes-on _ (none-refuses b k f) ∙ goes-on _ _ (not-steady-tells b k (f .taken)) s ∙ refuses _ _ (quote-tells b k) q
 
 pub quote-given-exactly-when : (b : List ℕ) (k : ℕ) (x : Refusal) → (quote-verdict b k ≡ refuse x) ↔ Given-quote b k x
 quote-given-exactly-when b k x = (quote-gives b k x, quote-refuses b k x)
@@ -201,11 +209,6 @@ module _ (b : List ℕ) {not-32 : Bool} {Not-32 : Type 0} (start : ℕ) (i : Tel
   -- for every test that tells whether the lent registers are not 32, ..
   pub running-given-exactly-when : (x : Refusal) → (run-verdict b not-32 start ≡ refuse x) ↔ Given-running b Not-32 start x
   running-given-exactly-when x = (running-gives x, running-refuses x)
-
--- .. the test as it stands, ..
-pub running-by-the-test : (b : List ℕ) (not-32 : Bool) (start : ℕ) (x : Refusal)
-    → (run-verdict b not-32 start ≡ refuse x) ↔ Given-running b (not-32 ≡ true) start x
-running-by-the-test b not-32 start x = running-given-exactly-when b start (no-fault (itself-tells not-32)) x
 
 -- .. a list of registers, ..
 pub running-with-registers : (b : List ℕ) (rs : Registers) (start : ℕ) (x : Refusal)

@@ -10,9 +10,15 @@ pub mod Slips
 pub mod Verdicts
 pub mod Tests
 pub mod GivenExactlyWhen
-pub mod GivenByCalls
 pub mod Lists
 pub mod TakenBook
+-- what is said from the lowest routine up; depth, steady and the calls' refusals in plain words
+pub mod Lowest
+pub mod Depth
+pub mod Steady
+pub mod SteadyWords
+pub mod GivenByCalls
+pub mod NoDepth
 -- the flat machine is source document 000's
 pub mod Registers
 pub mod Ram
@@ -21,16 +27,12 @@ pub mod RunExactly
 pub mod TakenProgram
 pub mod RunAnswers
 -- the flat run ends as the nested reading says, and the quote is enough
-pub mod Lowest
 pub mod FlatLines
 pub mod Moves
 pub mod Places
 pub mod Lockstep
 pub mod Simulation
-pub mod Steady
 pub mod QuoteEnough
-pub mod Depth
-pub mod SteadyWords
 -- what flattening writes is a book again
 pub mod OneRoutine
 pub mod WrittenBook

@@ -10,9 +10,10 @@ use Rattle.scope.specs.Ram.{Program, Configuration, Final}
 use Rattle.scope.specs.Steps.{register-count, Registers, value, Next, Outcome, OUT-OF-STEPS, End, run-on, run-from}
 use Rattle.scope.specs.Running.{flat-next, flat-run}
 use Rattle.scope.specs.Transitions.{configuration, Our-program, Full, Leads, here, one-more, Reason, finished, out-of-steps, full, Run-ends}
+use Rattle.scope.proofs.Registers.{value-there}
 use Rattle.scope.proofs.Ram.{has-one, one-transition}
 use Rattle.scope.proofs.StepIsRam as step
-use Rattle.scope.proofs.StepIsRam.{value-there, full-not-final, Stepped, ends, goes, stepped}
+use Rattle.scope.proofs.StepIsRam.{full-not-final, Stepped, ends, goes, stepped}
 
 -- ---- a run ends so
 

@@ -2,7 +2,7 @@
 -- A test on lines is the same said of each line, and a routine uses lower ones only, so each law is shown from the lowest routine up.
 use Prim.Native.Nat.{ℕ, zero, suc, _+_, _<_}
 use native.Mathlib.Omega.{arith}
-use mathlib.Core.Bool.{Bool, true, false, not, true≢false, false≢true}
+use mathlib.Core.Bool.{Bool, true, false, not, false≢true}
 use mathlib.Core.Path.{_≡_, refl, sym, _∙_}
 use mathlib.Core.Logic.{_↔_, _⊎_, inl, inr, ⊎-elim}
 use mathlib.Core.List.{List, [], _∷_}
@@ -14,7 +14,7 @@ use Rattle.scope.specs.Enough.{raises, raised}
 use Rattle.scope.specs.Depth.{Opened, alone, around}
 use Rattle.scope.specs.SteadyWords.{Names, INC-names, DEC-names, REPEAT-names, Found-in-or-under, Named, Raises, INC-raises, Raised, Steady-routine, its-lines-are, Steady-line, CALL-steady, DEC-steady, GO-TO-steady, REPEAT-steady, INC-steady}
 use Rattle.scope.proofs.Lists.{nothing-stands}
-use Rattle.scope.proofs.Verdicts.{Tells, in-words, itself-tells, is-tells, above-tells, or-tells, and-tells, not-tells}
+use Rattle.scope.proofs.Verdicts.{exactly-tells, itself-tells, is-tells, above-tells, or-tells, and-tells, not-tells}
 use Rattle.scope.proofs.Lowest.{in-or-under-by-the-rule, steady-by-the-rule}
 use Rattle.scope.proofs.Steady.{line-of-steady-lines}
 
@@ -45,10 +45,6 @@ raises-in-words j (REPEAT r c) e = absurd (false≢true e)
 raises-by-words : (j : ℕ) (l : Line) → Raises j l → raises j l ≡ true
 unfolding raises
 raises-by-words j (INC r) INC-raises = is-tells r r .when-true .1 refl
-
--- A test that is true exactly when P holds is false exactly when it does not.
-exactly-tells : {t : Bool} {P : Type 0} → (t ≡ true) ↔ P → Tells t P (¬ P)
-exactly-tells {t} i = in-words (itself-tells t) (i .0) (λ e p. true≢false (sym (i .1 p) ∙ e)) (λ p n. n p)
 
 -- ---- found in or under a routine: by one of its lines, or under a routine that a line uses
 

@@ -7,36 +7,32 @@ use mathlib.Core.Logic.{_≢_}
 use mathlib.Core.List.{[], _∷_}
 use native.Mathlib.Omega.{arith}
 use native.Mathlib.Decide.{ℕ-discrete}
-use lib.ListN.{length, drop, getD, length-drop, length-set}
+use lib.ListN.{length, drop, getD, List·getD-eq-default, length-drop, length-set}
 use lib.Seq.{getD-set-same, getD-set-other}
 use lib.Dec.{eqb}
 use borrow.Author.Tests.{eqb-true, eqb-false}
 use Rattle.scope.specs.Words.{if}
-use Rattle.scope.specs.Ram.{INC, DEC, GO-TO, Program, Has, has, Target-within, Targets-within, Configuration, Final, All-registers-stay, Other-registers-stay, Goes-to, final, rule-1, rule-2, rule-3, rule-4}
+use Rattle.scope.specs.Ram.{INC, DEC, GO-TO, Program, Has, has, Target-within, Targets-within, Configuration, Is-configuration, Final, All-registers-stay, Other-registers-stay, Goes-to, final, rule-1, rule-2, rule-3, rule-4}
 use Rattle.scope.specs.Steps.{register-count, top, Registers, value, with-value, Values-within, Next, at-the-end, before-full, goes-to, adds-one, takes-one-from, takes-one-off}
 use Rattle.scope.specs.Running.{flat-step, flat-next}
 use Rattle.scope.specs.Transitions.{configuration, Register-within, Registers-within, Our-program, Full, Overflows, Step-is-transition}
-use Rattle.scope.proofs.Registers.{written-within}
+use Rattle.scope.proofs.Registers.{value-there, written-within}
 use Rattle.scope.proofs.Ram.{has-one, has-below, has-not-final, INC-adds, one-transition, some-transition}
 
 -- ---- lists of registers
-
-within-whatever-beyond : (rs : Registers) (j d d′ : ℕ) → j < length rs → getD rs j d ≡ getD rs j d′
-within-whatever-beyond [] j d d′ h = absurd (omega arith)
-within-whatever-beyond (x ∷ rs) zero d d′ h = refl
-within-whatever-beyond (x ∷ rs) (suc j) d d′ h = within-whatever-beyond rs j d d′ (omega arith)
-
--- a register of ours has our value, and a value that we write there stands there
-pub value-there :
-    (beyond : ℕ → ℕ) (rs : Registers) (j : ℕ) → length rs ≡ register-count → j < register-count → getD rs j (beyond j) ≡ value rs j
-unfolding value
-value-there beyond rs j len h = within-whatever-beyond rs j (beyond j) 0 (omega (arith, len))
 
 written-there :
     (beyond : ℕ → ℕ) (rs : Registers) (j v : ℕ) → length rs ≡ register-count → j < register-count
     → getD (with-value rs j v) j (beyond j) ≡ v
 unfolding with-value
 written-there beyond rs j v len h = getD-set-same rs j v (beyond j) (omega (arith, len))
+
+-- With 0 from register 32 on, ours is a configuration of the source's: 0 almost everywhere, with PC at most n.
+pub ours-is-a-configuration :
+    (P : Program) (line : ℕ) (rs : Registers) → line ≤ length P → Is-configuration P (configuration (λ j. 0) line rs)
+unfolding configuration
+ours-is-a-configuration P line rs h =
+    record { bound = length rs; zero-from-the-bound-on = λ j past. List·getD-eq-default rs 0 past; pc-within = h }
 
 -- ---- the step, by cases
 
@@ -166,7 +162,6 @@ module _ {P : Program} (ours : Our-program P) (beyond : ℕ → ℕ) (line : ℕ
   step-is-ram =
       record {
         at-the-end-exactly = (λ e. the-end (rw e at s), λ f. final-is-the-end f s);
-        below-the-end = λ h e. omega (arith, the-end (rw e at s));
         is-the-transition = λ e d. (λ g. one-transition g (the-step (rw e at s) .0), λ z. subst⁻¹ (Goes-to P at-c) z (the-step (rw e at s) .0));
         registers-again = λ e. the-step (rw e at s) .1;
         line-again = λ e. the-step (rw e at s) .2;

@@ -81,6 +81,10 @@ is-not-tells m n = not-tells (is-tells m n)
 pub itself-tells : (t : Bool) → Tells t (t ≡ true) (t ≡ false)
 itself-tells t = record { when-true = (λ e. e, λ e. e); when-false = (λ e. e, λ e. e) }
 
+-- A test that is true exactly when P holds is false exactly when it does not.
+pub exactly-tells : {t : Bool} {P : Type 0} → (t ≡ true) ↔ P → Tells t P (¬ P)
+exactly-tells {t} i = in-words (itself-tells t) (i .0) (λ e p. true≢false (sym (i .1 p) ∙ e)) (λ p n. n p)
+
 pub never-tells : Tells false ⊥ (Unit {0})
 never-tells = told-false (λ x. x) tt
 

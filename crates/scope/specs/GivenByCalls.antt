@@ -1,15 +1,15 @@
 -- Document 01, "Numbers of refusal": 11 to 19, each "Given exactly when", for the calls that give them, in the order of each call.
 -- A call first asks that the book be taken; what is given for a book that is not stands in `Given`. Assumes nothing.
 use Prim.Native.Nat.{ℕ, _<_, _≤_}
-use mathlib.Core.Bool.{true, false}
-use mathlib.Core.Path.{_≡_}
 use mathlib.Core.List.{List}
 use lib.ListN.{length}
 use Rattle.scope.specs.Refusals.{SHORT, LENGTH, DEPTH, NO-ROUTINE, TOO-LONG, NO-ROOM, NOT-FLAT, REGISTERS, LINE, NOT-STEADY, QUOTE, Refusal, refusal}
 use Rattle.scope.specs.Book.{routines, lines, count, Taken, book-of}
-use Rattle.scope.specs.Flattening.{flat-length, flat-book-bytes, most-flat-lines, most-open, depth}
-use Rattle.scope.specs.Quote.{steady, quote, most-quote}
+use Rattle.scope.specs.Flattening.{flat-length, flat-book-bytes, most-flat-lines}
+use Rattle.scope.specs.Quote.{quote, most-quote}
 use Rattle.scope.specs.Shop.{trailer-length, book-read, routine-read, most-input}
+use Rattle.scope.specs.Depth.{Opens-too-many}
+use Rattle.scope.specs.SteadyWords.{Steady-routine}
 use Rattle.scope.specs.Given.{Given}
 
 -- Then: reading 12, 17; ..
@@ -25,16 +25,16 @@ pub data Given-to-flatten (b : List ℕ) (k : ℕ) : Refusal → Type 0 where
   to-flatten-the-book : {x : Refusal} → Given b x → Given-to-flatten b k x
   to-flatten-NO-ROUTINE : Taken b → routines b ≤ k → Given-to-flatten b k (refusal NO-ROUTINE 0)
   -- | 11 | DEPTH | more than 32 routines open inside one another |
-  to-flatten-DEPTH : Taken b → k < routines b → most-open < depth (book-of b) k → Given-to-flatten b k (refusal DEPTH 0)
+  to-flatten-DEPTH : Taken b → k < routines b → Opens-too-many (book-of b) k → Given-to-flatten b k (refusal DEPTH 0)
   -- | 13 | TOO LONG | flat length above 4,096 |
-  to-flatten-TOO-LONG : Taken b → k < routines b → depth (book-of b) k ≤ most-open → most-flat-lines < flat-length (book-of b) k
+  to-flatten-TOO-LONG : Taken b → k < routines b → ¬ Opens-too-many (book-of b) k → most-flat-lines < flat-length (book-of b) k
       → Given-to-flatten b k (refusal TOO-LONG 0)
 
 -- Routine k of the book flattens: none of these is given.
 pub record Flattens (b : List ℕ) (k : ℕ) : Type 0 where
   pub taken : Taken b
   pub a-routine : k < routines b
-  pub not-too-deep : depth (book-of b) k ≤ most-open
+  pub not-too-deep : ¬ Opens-too-many (book-of b) k
   pub not-too-long : flat-length (book-of b) k ≤ most-flat-lines
 
 -- .. flattening .. 14; ..
@@ -47,9 +47,9 @@ pub data Given-flattening (b : List ℕ) (k room : ℕ) : Refusal → Type 0 whe
 pub data Given-quote (b : List ℕ) (k : ℕ) : Refusal → Type 0 where
   quote-before : {x : Refusal} → Given-to-flatten b k x → Given-quote b k x
   -- | 18 | NOT STEADY | the routine is not steady |
-  quote-NOT-STEADY : Flattens b k → steady (book-of b) k ≡ false → Given-quote b k (refusal NOT-STEADY 0)
+  quote-NOT-STEADY : Flattens b k → ¬ Steady-routine (book-of b) k → Given-quote b k (refusal NOT-STEADY 0)
   -- | 19 | QUOTE | quote above 2^64-1 |
-  quote-QUOTE : Flattens b k → steady (book-of b) k ≡ true → most-quote < quote (book-of b) k → Given-quote b k (refusal QUOTE 0)
+  quote-QUOTE : Flattens b k → Steady-routine (book-of b) k → most-quote < quote (book-of b) k → Given-quote b k (refusal QUOTE 0)
 
 -- .. running 15, 16, 17; .. (What it means that the lent registers are not 32 depends on how they are lent.)
 pub data Given-running (b : List ℕ) (Not-32 : Type 0) (start : ℕ) : Refusal → Type 0 where

@@ -23,8 +23,6 @@ pub mod Running
 pub mod Quote
 -- "Numbers of refusal"
 pub mod Refusals
-pub mod Given
-pub mod GivenByCalls
 -- "The shop's program and the page"
 pub mod Page
 pub mod Shop
@@ -36,6 +34,8 @@ pub mod Moves
 pub mod Addresses
 pub mod Transitions
 pub mod FlatBook
-pub mod Enough
 pub mod Depth
 pub mod SteadyWords
+pub mod Enough
+pub mod Given
+pub mod GivenByCalls

@@ -5,7 +5,7 @@ use Prim.Native.Nat.{ℕ, _+_, _≤_}
 use mathlib.Core.Path.{_≡_}
 use mathlib.Core.Logic.{_≢_}
 use mathlib.Core.List.{List, _∷_}
-use lib.ListN.{length, drop, getD}
+use lib.ListN.{length, drop}
 
 -- Definition 1.5. An instruction has a type, which is INC, DEC or GO TO; where it is INC or DEC, the register that it acts on; where it
 -- is DEC or GO TO, a target.
@@ -46,10 +46,6 @@ pub record Is-configuration (P : Program) (c : Configuration) : Type 0 where
 -- A configuration is final if its PC is n.
 unfoldable pub Final : Program → Configuration → Type 0
 Final P c = c .pc ≡ length P
-
--- The initial configuration with the input x₁, .., xₖ has xⱼ in Rⱼ, and 0 everywhere else.
-unfoldable pub initial : List ℕ → Configuration
-initial xs = record { registers = λ j. getD (0 ∷ xs) j 0; pc = 0 }
 
 -- r′ᵢ = rᵢ for all i
 unfoldable pub All-registers-stay : Configuration → Configuration → Type 0

@@ -44,9 +44,8 @@ pub record Overflows (P : Program) (c : Configuration) (j : ℕ) : Type 0 where
 
 -- What our step is, at a line and with these registers, whatever stands beyond them:
 pub record Step-is-transition (P : Program) (beyond : ℕ → ℕ) (line : ℕ) (rs : Registers) : Type 0 where
-  -- it is at the end exactly where the configuration is final, at line n; so below n it is one of the two others;
+  -- it is at the end exactly where the configuration is final, at line n;
   pub at-the-end-exactly : (flat-next P line rs ≡ at-the-end) ↔ Final P (configuration beyond line rs)
-  pub below-the-end : line < length P → flat-next P line rs ≢ at-the-end
   -- where it goes somewhere, that is the one transition, our registers are again 32, the line is again one of 0 to n,
   pub is-the-transition :
       {p′ : ℕ} {rs′ : Registers} → flat-next P line rs ≡ goes-to p′ rs′
