@@ -25,10 +25,8 @@ module _ (book : Book) (ok : Callees-below book) where
       (around : List Opened-by) (after : Place) → From-the-end c around after → Moves-to book c 0 around (enter book c around after)
 
   come-to-moves :
-      (k :
-      ℕ) → ((c : ℕ) → c < k
-      → Leads-through c) → (i : ℕ) (ls : List Line) (around : List Opened-by) (after : Place) → drop i (routine book k) ≡ ls
-      → From-the-end k around after → Moves-to book k i around (come-to (enter book) k i ls around after)
+      (k : ℕ) (through : (c : ℕ) → c < k → Leads-through c) (i : ℕ) (ls : List Line) (around : List Opened-by) (after : Place)
+      → drop i (routine book k) ≡ ls → From-the-end k around after → Moves-to book k i around (come-to (enter book) k i ls around after)
   unfolding come-to Leads-through Callees-below
   come-to-moves k through i [] around after e from-end = from-end i e
   come-to-moves k through i (INC r ∷ ls) around after e from-end = INC-is-a-step e
@@ -67,15 +65,15 @@ module _ (book : Book) (ok : Callees-below book) where
 
   -- ---- what the moves lead to, `settle` gives
 
-  settle-enters :
+  entering-is-settling :
       {rest : List Line} {c : ℕ} (k i : ℕ) (around : List Opened-by) → drop i (routine book k) ≡ CALL c ∷ rest
       → settle book c 0 (a-CALL k i ∷ around) ≡ settle book k i around
   unfolding settle come-to enter-by leave
-  settle-enters {rest} {c} k i around e = rw (e, drop-tail (routine book k) i e, enter-by-the-rule book ok c) refl
+  entering-is-settling {rest} {c} k i around e = rw (e, drop-tail (routine book k) i e, enter-by-the-rule book ok c) refl
 
-  settle-leaves : (c j : ℕ) (around : List Opened-by) → drop j (routine book c) ≡ [] → leave book c around ≡ settle book c j around
+  leaving-is-settling : (c j : ℕ) (around : List Opened-by) → drop j (routine book c) ≡ [] → leave book c around ≡ settle book c j around
   unfolding settle come-to
-  settle-leaves c j around d = rw d refl
+  leaving-is-settling c j around d = rw d refl
 
   moves-to-settle :
       {k i : ℕ} {around : List Opened-by} {place : Place} → Moves-to book k i around place → place ≡ settle book k i around
@@ -84,10 +82,10 @@ module _ (book : Book) (ok : Callees-below book) where
   moves-to-settle (DEC-is-a-step e) = rw e refl
   moves-to-settle (GO-TO-is-a-step e) = rw e refl
   moves-to-settle (REPEAT-looks e) = rw e refl
-  moves-to-settle {k = k} {i = i} {around = around} (CALL-enters e m) = moves-to-settle m ∙ settle-enters k i around e
-  moves-to-settle {k = c} {i = j} {around = a-CALL k i ∷ around} (CALL-goes-on d m) = moves-to-settle m ∙ settle-leaves c j (a-CALL k i ∷ around) d
-  moves-to-settle {k = c} {i = j} {around = a-REPEAT k i ∷ around} (REPEAT-goes-back d) = settle-leaves c j (a-REPEAT k i ∷ around) d
-  moves-to-settle {k = k} {i = i} (asked-is-at-its-end d) = settle-leaves k i [] d
+  moves-to-settle {k = k} {i = i} {around = around} (CALL-enters e m) = moves-to-settle m ∙ entering-is-settling k i around e
+  moves-to-settle {k = c} {i = j} {around = a-CALL k i ∷ around} (CALL-goes-on d m) = moves-to-settle m ∙ leaving-is-settling c j (a-CALL k i ∷ around) d
+  moves-to-settle {k = c} {i = j} {around = a-REPEAT k i ∷ around} (REPEAT-goes-back d) = leaving-is-settling c j (a-REPEAT k i ∷ around) d
+  moves-to-settle {k = k} {i = i} (asked-is-at-its-end d) = leaving-is-settling k i [] d
 
   -- So the relation and the function give the same place.
   pub moves-exactly :

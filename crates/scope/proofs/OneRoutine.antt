@@ -9,15 +9,15 @@ use lib.ListN.{length, take}
 use Rattle.scope.specs.Words.{if, listed}
 use Rattle.scope.specs.Ram as ram
 use Rattle.scope.specs.Ram.{Instruction, Program, Has, has, Target-within, Targets-within}
-use Rattle.scope.specs.Book.{INC-kind, DEC-kind, GO-TO-kind, routines, lines, first-line, count, first-line-due, Line-fields, Line, INC, DEC, GO-TO, CALL, REPEAT, fields-of, line-of, fields-at, line-number, fields-in, Taken, Book, routine, routine-of, book-of, said-below, from-the-lowest-up}
+use Rattle.scope.specs.Book.{INC-kind, DEC-kind, GO-TO-kind, routines, lines, first-line, Line-fields, Line, INC, DEC, GO-TO, CALL, REPEAT, fields-of, line-of, fields-at, line-number, fields-in, Taken, Book, routine, routine-of, book-of, said-below, from-the-lowest-up}
 use Rattle.scope.specs.Flattening.{line-length, sum-of, flat-length, start, copy-line, copy-lines, copy-by, copy, flat-program, as-line}
 use Rattle.scope.specs.Running.{instruction-of, program-of}
 use Rattle.scope.specs.Given.{Zero-stands, Has-callee}
 use Rattle.scope.proofs.Ram.{has-later}
 use Rattle.scope.proofs.Verdicts.{is-tells, either-way}
 use Rattle.scope.proofs.Lists.{listed-map}
-use Rattle.scope.proofs.TakenProgram.{line-of-the-book, taken-program}
-use Rattle.scope.proofs.TakenBook.{Taken-line, taken-book}
+use Rattle.scope.proofs.TakenProgram.{starts-at-0, counts-all, line-of-the-book, taken-program}
+use Rattle.scope.proofs.TakenBook.{Taken-line}
 
 -- ---- one line
 
@@ -25,13 +25,13 @@ pub same-fields : {f g : Line-fields} → f .kind ≡ g .kind → f .register �
 same-fields k r o = λ i. record { kind = k i; register = r i; operand = o i }
 
 -- What is written of a line is read as that line.
-line-again : (l : Line) → line-of (fields-of l) ≡ l
+line-read-back : (l : Line) → line-of (fields-of l) ≡ l
 unfolding line-of fields-of if
-line-again (INC r) = refl
-line-again (DEC r t) = refl
-line-again (GO-TO t) = refl
-line-again (CALL c) = refl
-line-again (REPEAT r c) = refl
+line-read-back (INC r) = refl
+line-read-back (DEC r t) = refl
+line-read-back (GO-TO t) = refl
+line-read-back (CALL c) = refl
+line-read-back (REPEAT r c) = refl
 
 -- In routine 0 a line that is neither INC nor DEC is GO TO: CALL and REPEAT would name a routine below it.
 only-GO-TO-is-left : (f : Line-fields) (n : ℕ) → Taken-line f 0 n → ¬ (f .kind ≡ INC-kind) → ¬ (f .kind ≡ DEC-kind) → f .kind ≡ GO-TO-kind
@@ -52,24 +52,16 @@ fields-again f n t =
     same-fields (sym k) (sym (t .zero-where-0-stands (inl k))) refl
 
 line-as-instruction : (f : Line-fields) (n : ℕ) → Taken-line f 0 n → line-of f ≡ as-line (instruction-of f)
-line-as-instruction f n t = ap line-of (sym (fields-again f n t)) ∙ line-again (as-line (instruction-of f))
+line-as-instruction f n t = ap line-of (sym (fields-again f n t)) ∙ line-read-back (as-line (instruction-of f))
 
 -- ---- the whole book
 
 module _ (b : List ℕ) (t : Taken b) (one : routines b ≡ 1) where
-  pub starts-at-0 : first-line b 0 ≡ 0
-  unfolding first-line-due
-  starts-at-0 = taken-book b t .starts-where-due 0 (omega arith)
-
-  pub counts-all : count b 0 ≡ lines b
-  unfolding first-line-due
-  counts-all = omega (arith, starts-at-0, (rw one at (taken-book b t .last-ends-at-L)))
-
   pub one-routine-book : book-of b ≡ map as-line (program-of b) ∷ []
   unfolding book-of routine-of program-of listed fields-in line-number
   one-routine-book =
-      rw (one, counts-all) (ap (λ ls. ls ∷ []) (listed-map as-line _ _ 0 (lines b) (λ k h.
-      let same : first-line b 0 + k ≡ k = omega (arith, starts-at-0) in
+      rw (one, counts-all b t one) (ap (λ ls. ls ∷ []) (listed-map as-line _ _ 0 (lines b) (λ k h.
+      let same : first-line b 0 + k ≡ k = omega (arith, starts-at-0 b t one) in
       rw same (line-as-instruction (fields-at b k) (lines b) (line-of-the-book b t one k (omega arith))))))
 
 -- ---- flattening it changes nothing

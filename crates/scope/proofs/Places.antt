@@ -15,7 +15,7 @@ use Rattle.scope.proofs.FlatLines.{first-start, next-start, end-start}
 
 -- ---- places that a run of the asked routine can come to
 
--- the steps of a line that is none of CALL
+-- the steps of a line other than CALL
 pub data Does : Line → Step → Type 0 where
   does-inc : {r : ℕ} → Does (INC r) (inc r)
   does-dec : {r t : ℕ} → Does (DEC r t) (dec r t)

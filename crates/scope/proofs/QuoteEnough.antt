@@ -11,12 +11,12 @@ use lib.Seq.{drop-nil}
 use borrow.Author.Tests.{ltb-true, eqb-false}
 use Rattle.scope.specs.Words.{_is_, if}
 use Rattle.scope.specs.Book.{Line, INC, DEC, GO-TO, CALL, REPEAT, Book, routine, used, Callees-below}
-use Rattle.scope.specs.Steps.{top, Registers, value, with-value, Values-within, Next, at-the-end, before-full, goes-to, adds-one, takes-one-from, takes-one-off, run-on, run-from}
+use Rattle.scope.specs.Steps.{top, Registers, value, with-value, Values-within, Next, at-the-end, before-full, goes-to, adds-one, takes-one-from, takes-one-off, By-itself, itself-FINISHED, itself-FULL, run-on, run-from}
 use Rattle.scope.specs.Nested.{Opened-by, a-CALL, a-REPEAT, Step, inc, dec, go-to, look, go-back, Place, ended, due, come-to, settle, nested-step, nested-next, nested-run}
 use Rattle.scope.specs.Flattening.{sum-of, start}
 use Rattle.scope.specs.Addresses.{begins}
 use Rattle.scope.specs.Quote.{line-steady, steady, line-quote, quote-by, quote}
-use Rattle.scope.specs.Enough.{raises, raised, steady-where-not-raised, By-itself, finished, full, Ends-within, Quote-is-enough}
+use Rattle.scope.specs.Enough.{raises, raised, steady-where-not-raised, Ends-within, Quote-is-enough}
 use Rattle.scope.specs.Moves.{Moves-to, INC-is-a-step, DEC-is-a-step, GO-TO-is-a-step, REPEAT-looks, CALL-enters, CALL-goes-on, REPEAT-goes-back, asked-is-at-its-end}
 use Rattle.scope.proofs.Registers.{taken-off, written-within, none-rises, others-stay}
 use Rattle.scope.proofs.Lowest.{quote-by-the-rule}
@@ -74,32 +74,32 @@ module _ (book : Book) (ok : Callees-below book) (rs : Registers) (low : Values-
   present-is-quoted (CALL c) = omega arith
   present-is-quoted (REPEAT r c) = omega (arith, mul-le-mul-right (quote book c + 2) (low r))
 
-  due-leaves :
+  due-leaves-no-more :
       {l : Line} {rest : List Line} (d : Step) (k i : ℕ) (around : List Opened-by) → drop i (routine book k) ≡ l ∷ rest → way-back book d ≡ 0
       → left book rs (due d k i around) ≤ quoted book (drop i (routine book k)) + left-around book rs around
   unfolding left from-here sum-of
-  due-leaves {l} d k i around e no-way-back = rw e (omega (arith, no-way-back, present-is-quoted l))
+  due-leaves-no-more {l} d k i around e no-way-back = rw e (omega (arith, no-way-back, present-is-quoted l))
 
-  moves-leave :
+  moves-leave-no-more :
       {k i : ℕ} {around : List Opened-by} {place : Place} → Moves-to book k i around place
       → left book rs place ≤ quoted book (drop i (routine book k)) + left-around book rs around
   unfolding left left-around way-back sum-of line-quote quote-by
-  moves-leave {k = k} {i = i} {around = around} (INC-is-a-step {r = r} e) = due-leaves (inc r) k i around e refl
-  moves-leave {k = k} {i = i} {around = around} (DEC-is-a-step {r = r} {t = t} e) = due-leaves (dec r t) k i around e refl
-  moves-leave {k = k} {i = i} {around = around} (GO-TO-is-a-step {t = t} e) = due-leaves (go-to t) k i around e refl
-  moves-leave {k = k} {i = i} {around = around} (REPEAT-looks {r = r} {c = c} e) = due-leaves (look r c) k i around e refl
-  moves-leave {k = k} {i = i} (CALL-enters {c = c} {rest = rest} e m) =
+  moves-leave-no-more {k = k} {i = i} {around = around} (INC-is-a-step {r = r} e) = due-leaves-no-more (inc r) k i around e refl
+  moves-leave-no-more {k = k} {i = i} {around = around} (DEC-is-a-step {r = r} {t = t} e) = due-leaves-no-more (dec r t) k i around e refl
+  moves-leave-no-more {k = k} {i = i} {around = around} (GO-TO-is-a-step {t = t} e) = due-leaves-no-more (go-to t) k i around e refl
+  moves-leave-no-more {k = k} {i = i} {around = around} (REPEAT-looks {r = r} {c = c} e) = due-leaves-no-more (look r c) k i around e refl
+  moves-leave-no-more {k = k} {i = i} (CALL-enters {c = c} {rest = rest} e m) =
       let behind : quoted book (drop (suc i) (routine book k)) ≡ quoted book rest = rw (drop-tail (routine book k) i e) refl in
       let its-quote : quoted book (routine book c) ≡ quote book c = sym (quote-by-the-rule book ok c) in
-      rw e (omega (arith, moves-leave m, behind, its-quote))
-  moves-leave (CALL-goes-on d m) = rw d (omega (arith, moves-leave m))
-  moves-leave (REPEAT-goes-back d) = omega arith
-  moves-leave (asked-is-at-its-end d) = omega arith
+      rw e (omega (arith, moves-leave-no-more m, behind, its-quote))
+  moves-leave-no-more (CALL-goes-on d m) = rw d (omega (arith, moves-leave-no-more m))
+  moves-leave-no-more (REPEAT-goes-back d) = omega arith
+  moves-leave-no-more (asked-is-at-its-end d) = omega arith
 
-  settle-leaves :
+  settle-leaves-no-more :
       (k i : ℕ) (around : List Opened-by)
       → left book rs (settle book k i around) ≤ quoted book (drop i (routine book k)) + left-around book rs around
-  settle-leaves k i around = moves-leave (settle-is-moved-to book ok k i around)
+  settle-leaves-no-more k i around = moves-leave-no-more (settle-is-moved-to book ok k i around)
 
 -- ---- a register that is not raised does not rise around
 
@@ -160,7 +160,7 @@ module _ (book : Book) (ok : Callees-below book) (asked : ℕ) (steady-asked : s
       → left book ss (settle book k t around) < from-here book rs (drop i (routine book k)) + left-around book rs around
   unfolding from-here
   further-on {l} {rest} rs ss k i t around e o lt some h low =
-      let on = settle-leaves book ok ss low k t around in
+      let on = settle-leaves-no-more book ok ss low k t around in
       let later = quoted-from-further-on (routine book k) (suc i) t (omega arith) in
       let next : quoted book (drop (suc i) (routine book k)) ≡ quoted book rest = rw (drop-tail (routine book k) i e) refl in
       rw e (omega (arith, on, later, next, some, around-does-not-rise rs ss o h))
@@ -232,7 +232,7 @@ module _ (book : Book) (ok : Callees-below book) (asked : ℕ) (steady-asked : s
       by-value (suc v) z =
           let ss = with-value rs r v in
           let low-still = stays-low rs r v z low in
-          let in-c = settle-leaves book ok ss low-still c 0 (a-REPEAT k i ∷ around) in
+          let in-c = settle-leaves-no-more book ok ss low-still c 0 (a-REPEAT k i ∷ around) in
           let its-quote : quoted book (routine book c) ≡ quote book c = sym (quote-by-the-rule book ok c) in
           let again : from-here book ss (drop i (routine book k)) ≡ v * (quote book c + 2) + 1 + quoted book rest = rw (e, taken-off rs r v z) refl in
           let around-it = around-does-not-rise rs ss o (λ j n. none-rises rs r v j (omega arith)) in
@@ -266,11 +266,11 @@ module _ (book : Book) (ok : Callees-below book) (asked : ℕ) (steady-asked : s
       (budget done n : ℕ) (place : Place) (rs : Registers) {next : Next Place} → Falls n next → n ≤ budget
       → Ends-within (done + n) (run-on (nested-next book) budget done place rs next)
   unfolding run-on
-  run-stops zero done n place rs is-at-the-end h = record { by-itself = finished; within = omega arith }
+  run-stops zero done n place rs is-at-the-end h = record { by-itself = itself-FINISHED; within = omega arith }
   run-stops zero done n place rs (is-full some) h = absurd (omega arith)
   run-stops zero done n place rs (falls g low lt) h = absurd (omega arith)
-  run-stops (suc budget) done n place rs is-at-the-end h = record { by-itself = finished; within = omega arith }
-  run-stops (suc budget) done n place rs (is-full some) h = record { by-itself = full; within = omega arith }
+  run-stops (suc budget) done n place rs is-at-the-end h = record { by-itself = itself-FINISHED; within = omega arith }
+  run-stops (suc budget) done n place rs (is-full some) h = record { by-itself = itself-FULL; within = omega arith }
   run-stops (suc budget) done n place rs (falls {place = place′} {rs = rs′} g low lt) h =
       let on = run-stops budget (suc done) (left book rs′ place′) place′ rs′ (step-falls rs′ g low) (omega (arith, lt, h)) in
       record { by-itself = on .by-itself; within = omega (arith, on .within, lt) }
@@ -282,7 +282,7 @@ module _ (book : Book) (ok : Callees-below book) (asked : ℕ) (steady-asked : s
   nested-run-stops budget rs low h =
       let first = settle book asked 0 [] in
       let its-quote : quoted book (routine book asked) ≡ quote book asked = sym (quote-by-the-rule book ok asked) in
-      let at-first = settle-leaves book ok rs low asked 0 [] in
+      let at-first = settle-leaves-no-more book ok rs low asked 0 [] in
       let down = step-falls rs (settled asked 0 [] the-asked) low in
       let on = run-stops budget 0 (left book rs first) first rs down (omega (arith, at-first, its-quote, h)) in
       record { by-itself = on .by-itself; within = omega (arith, on .within, at-first, its-quote) }

@@ -112,13 +112,13 @@ INC-adds h (rule-4 i l r) = let y : _≡_ {A = ℕ} 0 1 = cc (has-one h i) in ab
 -- ---- it is a configuration again: 0 almost everywhere, with PC at most n
 
 module _ {P : Program} {c d : Configuration} (ok : Is-configuration P c) where
-  all-stay : All-registers-stay c d → d .pc ≤ length P → Is-configuration P d
+  every-one-stays : All-registers-stay c d → d .pc ≤ length P → Is-configuration P d
   unfolding All-registers-stay
-  all-stay r l = record { bound = ok .bound; zero-from-the-bound-on = λ i h. r i ∙ ok .zero-from-the-bound-on i h; pc-within = l }
+  every-one-stays r l = record { bound = ok .bound; zero-from-the-bound-on = λ i h. r i ∙ ok .zero-from-the-bound-on i h; pc-within = l }
 
-  others-stay : (j : ℕ) → Other-registers-stay j c d → d .pc ≤ length P → Is-configuration P d
+  all-but-one-stay : (j : ℕ) → Other-registers-stay j c d → d .pc ≤ length P → Is-configuration P d
   unfolding Other-registers-stay
-  others-stay j r l =
+  all-but-one-stay j r l =
       record {
         bound = max (ok .bound) (suc j);
         zero-from-the-bound-on = λ i h. r i (λ e. omega (arith, e)) ∙ ok .zero-from-the-bound-on i (omega arith);
@@ -127,11 +127,11 @@ module _ {P : Program} {c d : Configuration} (ok : Is-configuration P c) where
 
 configuration-again : {P : Program} {c d : Configuration} → Targets-within P → Is-configuration P c → Goes-to P c d → Is-configuration P d
 unfolding Target-within Targets-within
-configuration-again t ok (final f l r) = all-stay ok r (omega (arith, l, ok .pc-within))
-configuration-again t ok (rule-1 {j} h v l r) = others-stay ok j r (omega (arith, l, has-below h))
-configuration-again t ok (rule-2 {j} h v l r) = others-stay ok j r (omega (arith, l, has-below h))
-configuration-again {c} t ok (rule-3 {j} {l = k} h v l r) = all-stay ok r (omega (arith, l, t (c .pc) (DEC j k) h))
-configuration-again {c} t ok (rule-4 {l = k} h l r) = all-stay ok r (omega (arith, l, t (c .pc) (GO-TO k) h))
+configuration-again t ok (final f l r) = every-one-stays ok r (omega (arith, l, ok .pc-within))
+configuration-again t ok (rule-1 {j} h v l r) = all-but-one-stay ok j r (omega (arith, l, has-below h))
+configuration-again t ok (rule-2 {j} h v l r) = all-but-one-stay ok j r (omega (arith, l, has-below h))
+configuration-again {c} t ok (rule-3 {j} {l = k} h v l r) = every-one-stays ok r (omega (arith, l, t (c .pc) (DEC j k) h))
+configuration-again {c} t ok (rule-4 {l = k} h l r) = every-one-stays ok r (omega (arith, l, t (c .pc) (GO-TO k) h))
 
 -- Lemma 1.9, whole
 pub goes-to-exactly-one :

@@ -46,7 +46,7 @@ within-whatever-beyond [] j d d′ h = absurd (omega arith)
 within-whatever-beyond (x ∷ rs) zero d d′ h = refl
 within-whatever-beyond (x ∷ rs) (suc j) d d′ h = within-whatever-beyond rs j d d′ (omega arith)
 
--- a register of ours has our value, and a value that we write there stands there
+-- a register of ours has our value, whatever stands beyond ours
 pub value-there :
     (beyond : ℕ → ℕ) (rs : Registers) (j : ℕ) → length rs ≡ register-count → j < register-count → getD rs j (beyond j) ≡ value rs j
 unfolding value

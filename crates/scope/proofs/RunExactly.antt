@@ -2,12 +2,12 @@
 -- Forth by the budget, a step a transition; back because transitions and reasons leave one end only. Assumes nothing.
 use Prim.Native.Nat.{ℕ, zero, suc, _+_, _≤_}
 use mathlib.Core.Path.{_≡_, refl, sym, ap, _∙_}
-use mathlib.Core.Logic.{_↔_, _≢_}
+use mathlib.Core.Logic.{_↔_}
 use native.Mathlib.Omega.{arith}
 use lib.ListN.{length, getD}
 use lib.Seq.{ext-getD}
 use Rattle.scope.specs.Ram.{Program, Configuration, Final}
-use Rattle.scope.specs.Steps.{register-count, Registers, value, Next, Outcome, OUT-OF-STEPS, End, run-on, run-from}
+use Rattle.scope.specs.Steps.{register-count, Registers, value, Next, Outcome, By-itself, itself-FINISHED, itself-FULL, End, run-on, run-from}
 use Rattle.scope.specs.Running.{flat-next, flat-run}
 use Rattle.scope.specs.Transitions.{configuration, Our-program, Full, Leads, here, one-more, Reason, finished, out-of-steps, full, Run-ends}
 use Rattle.scope.proofs.Registers.{value-there}
@@ -68,7 +68,7 @@ module _ {P : Program} (ours : Our-program P) (beyond : ℕ → ℕ) where
 
 -- ---- it ends only so
 
-record Same-end (t t′ : ℕ) (d d′ : Configuration) (o o′ : Outcome) : Type 0 where
+record One-end (t t′ : ℕ) (d d′ : Configuration) (o o′ : Outcome) : Type 0 where
   same-steps : t ≡ t′
   same-place : d ≡ d′
   same-outcome : o ≡ o′
@@ -93,7 +93,7 @@ module _ {P : Program} {budget : ℕ} where
   only-the-budget nf nu (full {j} _ n u) = absurd (nu j u)
 
   one-end : {t t′ s s′ : ℕ} {c d d′ : Configuration} {o o′ : Outcome} (before : ℕ) → Leads P s c d → Leads P s′ c d′
-      → t ≡ before + s → t′ ≡ before + s′ → t ≤ budget → t′ ≤ budget → Reason P budget t d o → Reason P budget t′ d′ o′ → Same-end t t′ d d′ o o′
+      → t ≡ before + s → t′ ≡ before + s′ → t ≤ budget → t′ ≤ budget → Reason P budget t d o → Reason P budget t′ d′ o′ → One-end t t′ d d′ o o′
   one-end {t} {t′} before here here e e′ h h′ r r′ =
       let z : t ≡ t′ = omega (arith, e, e′) in
       record { same-steps = z; same-place = refl; same-outcome = one-reason z r r′ }
@@ -131,10 +131,10 @@ run-exactly {P} ours beyond start budget rs e len h = (λ z. rw z at r, λ r′.
     r : Run-ends P beyond start rs budget (flat-run P start budget rs)
     r = run-ends ours beyond start budget rs len h
 
--- A run that is not OUT OF STEPS ends the same way with every greater budget.
+-- A FINISHED or FULL answer is the same under every larger budget.
 pub more-budget :
     {P : Program} → Our-program P → (start budget budget′ : ℕ) (rs : Registers) (e : End ℕ) → length rs ≡ register-count → start ≤ length P
-    → flat-run P start budget rs ≡ e → e .outcome ≢ OUT-OF-STEPS → budget ≤ budget′ → flat-run P start budget′ rs ≡ e
+    → flat-run P start budget rs ≡ e → By-itself (e .outcome) → budget ≤ budget′ → flat-run P start budget′ rs ≡ e
 more-budget {P} ours start budget budget′ rs e len h z stopped le =
     run-exactly ours beyond start budget′ rs e len h .1 (record {
       registers-again = r .registers-again;
@@ -149,7 +149,6 @@ more-budget {P} ours start budget budget′ rs e len h z stopped le =
     r : Run-ends P beyond start rs budget e
     r = run-exactly ours beyond start budget rs e len h .0 z
 
-    still : {s : ℕ} {c : Configuration} {o : Outcome} → o ≢ OUT-OF-STEPS → s ≤ budget → Reason P budget s c o → Reason P budget′ s c o
-    still n w (finished f) = finished f
-    still n w (out-of-steps nf b) = absurd (n refl)
-    still n w (full nf b f) = full nf (λ c. b (omega (arith, c))) f
+    still : {s : ℕ} {c : Configuration} {o : Outcome} → By-itself o → s ≤ budget → Reason P budget s c o → Reason P budget′ s c o
+    still itself-FINISHED w (finished f) = finished f
+    still itself-FULL w (full nf b f) = full nf (λ c. b (omega (arith, c))) f

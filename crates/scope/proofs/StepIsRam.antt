@@ -21,6 +21,7 @@ use Rattle.scope.proofs.Ram.{has-one, has-below, has-not-final, INC-add
 
 -- ---- lists of registers
 
+-- a value that we write in a register of ours stands there
 written-there :
     (beyond : ℕ → ℕ) (rs : Registers) (j v : ℕ) → length rs ≡ register-count → j < register-count
     → getD (with-value rs j v) j (beyond j) ≡ v

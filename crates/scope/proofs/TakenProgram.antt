@@ -1,6 +1,6 @@
 -- A taken book of one routine says a program of our machine, of L lines; so its steps are transitions, and its runs end exactly where they lead.
 -- No routine lies below its only one, so it has no CALL and no REPEAT, and its lines are the lines of the book. Assumes nothing.
-use Prim.Native.Nat.{ℕ, _+_, _≤_, _<_}
+use Prim.Native.Nat.{ℕ, _≤_, _<_}
 use mathlib.Core.Path.{_≡_, _∙_}
 use mathlib.Core.Logic.{_↔_, _≢_, inl, inr}
 use mathlib.Core.List.{List}
@@ -10,7 +10,7 @@ use lib.Seq.{drop-cons}
 use Rattle.scope.specs.Ram.{Instruction, Has, has, Target-within, Targets-within}
 use Rattle.scope.specs.Book.{routines, lines, first-line, first-line-due, count, Line-fields, INC-kind, DEC-kind, CALL-kind, REPEAT-kind, fields-at, line-number, fields-in, Taken}
 use Rattle.scope.specs.Given.{Has-target, Has-callee}
-use Rattle.scope.specs.Steps.{register-count, Registers, OUT-OF-STEPS, End}
+use Rattle.scope.specs.Steps.{register-count, Registers, By-itself, End}
 use Rattle.scope.specs.Running.{flat-run, instruction-of, program-of}
 use Rattle.scope.specs.Transitions.{Register-within, Registers-within, Our-program, Step-is-transition, Run-ends}
 use Rattle.scope.proofs.Verdicts.{is-tells, either-way}
@@ -52,15 +52,20 @@ fits f n t =
     no-REPEAT e = omega (arith, t .callee-below (inr e))
 
 module _ (b : List ℕ) (taken : Taken b) (flat : routines b ≡ 1) where
+  pub starts-at-0 : first-line b 0 ≡ 0
+  unfolding first-line-due
+  starts-at-0 = taken-book b taken .starts-where-due 0 (taken-book b taken .some-routine)
+
+  pub counts-all : count b 0 ≡ lines b
+  unfolding first-line-due
+  counts-all = omega (arith, starts-at-0, (rw flat at (taken-book b taken .last-ends-at-L)))
+
   pub line-of-the-book : (p : ℕ) → p < lines b → Taken-line (fields-at b p) 0 (lines b)
-  unfolding first-line-due fields-in line-number
+  unfolding fields-in line-number
   line-of-the-book p h =
       let k = taken-book b taken in
-      let starts : first-line b 0 ≡ 0 = k .starts-where-due 0 (k .some-routine) in
-      let ends : first-line b 0 + count b 0 ≡ lines b = rw flat at (k .last-ends-at-L) in
-      let all : count b 0 ≡ lines b = omega arith in
-      let same : line-number b 0 p ≡ p = omega (arith, starts) in
-      rw (same, all) at (k .lines-right 0 p (k .some-routine) (omega arith))
+      let same : line-number b 0 p ≡ p = omega (arith, starts-at-0) in
+      rw (same, counts-all) at (k .lines-right 0 p (k .some-routine) (omega (arith, counts-all)))
 
   pub taken-program : Our-program (program-of b)
   unfolding Registers-within Targets-within
@@ -87,5 +92,5 @@ module _ (b : List ℕ) (taken : Taken b) (flat : routines b ≡ 1) where
 
   pub taken-more-budget :
       (start budget budget′ : ℕ) (rs : Registers) (e : End ℕ) → length rs ≡ register-count → start ≤ lines b
-      → flat-run (program-of b) start budget rs ≡ e → e .outcome ≢ OUT-OF-STEPS → budget ≤ budget′ → flat-run (program-of b) start budget′ rs ≡ e
+      → flat-run (program-of b) start budget rs ≡ e → By-itself (e .outcome) → budget ≤ budget′ → flat-run (program-of b) start budget′ rs ≡ e
   taken-more-budget start budget budget′ rs e len h = more-budget taken-program start budget budget′ rs e len (inside h)

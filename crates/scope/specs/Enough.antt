@@ -4,7 +4,7 @@ use Prim.Native.Nat.{ℕ, _≤_}
 use mathlib.Core.Bool.{Bool, true, false}
 use Rattle.scope.specs.Words.{_is_}
 use Rattle.scope.specs.Book.{Line, INC, DEC, GO-TO, CALL, REPEAT, Book, from-the-lowest-up}
-use Rattle.scope.specs.Steps.{Registers, Outcome, FINISHED, FULL, End}
+use Rattle.scope.specs.Steps.{Registers, By-itself, End}
 use Rattle.scope.specs.Nested.{nested-run}
 use Rattle.scope.specs.Flattening.{flat-program}
 use Rattle.scope.specs.Running.{flat-run}
@@ -26,11 +26,6 @@ module _ (book : Book) where
   -- steady, but that a REPEAT line needs only that its register is not raised in or under the repeated routine
   unfoldable pub steady-where-not-raised : ℕ → Bool
   steady-where-not-raised = from-the-lowest-up true (steady-by book raised)
-
--- A run ended FINISHED or FULL: by itself, and not for want of steps.
-pub data By-itself : Outcome → Type 0 where
-  finished : By-itself FINISHED
-  full : {r : ℕ} → By-itself (FULL r)
 
 -- It ended by itself, after at most so many steps.
 pub record Ends-within {P : Type 0} (most : ℕ) (e : End P) : Type 0 where

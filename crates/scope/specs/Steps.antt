@@ -55,6 +55,11 @@ pub data Outcome : Type 0 where
   FINISHED OUT-OF-STEPS : Outcome
   FULL : (register : ℕ) → Outcome
 
+-- FINISHED or FULL: a run ended by itself, and not for want of steps.
+pub data By-itself : Outcome → Type 0 where
+  itself-FINISHED : By-itself FINISHED
+  itself-FULL : {r : ℕ} → By-itself (FULL r)
+
 -- How a run ends: the outcome, the steps done, the place reached. Registers hold what those steps left.
 pub record End (P : Type 0) : Type 0 where
   pub outcome : Outcome
