@@ -14,7 +14,7 @@ use Rattle.scope.specs.Flattening.{flat-length, flat-book-bytes, most-fl
 use Rattle.scope.specs.Running.{run-verdict, bench-verdict}
 use Rattle.scope.specs.Quote.{steady, quote, most-quote, quote-verdict}
 use Rattle.scope.specs.Page.{registers-length}
-use Rattle.scope.specs.Shop.{trailer-length, most-input, shop-verdict}
+use Rattle.scope.specs.Shop.{book-read, routine-read, trailer-length, most-input, shop-verdict}
 use Rattle.scope.specs.Depth.{Opens-too-many}
 use Rattle.scope.specs.SteadyWords.{Steady-routine}
 use Rattle.scope.specs.Given.{Given}
@@ -57,6 +57,10 @@ unfolding read-verdict
 reading-refuses b r j x (reading-the-book g) = the-book-refuses _ g
 reading-refuses b r j x (reading-NO-ROUTINE t h) = then-goes-on _ t ∙ refuses _ _ (no-routine-tells b r) h
 reading-refuses b r j x (reading-LINE t h l) = then-goes-on _ t ∙ goes-on _ _ (no-routine-tells b r) h ∙ refuses _ _ (no-line-tells b r j) l
+
+pub reading-passes : (b : List ℕ) (r j : ℕ) → Taken b → r < routines b → j < count b r → read-verdict b r j ≡ pass
+unfolding read-verdict
+reading-passes b r j t h l = then-goes-on _ t ∙ goes-on _ _ (no-routine-tells b r) h ∙ goes-on _ _ (no-line-tells b r j) l
 
 pub reading-given-exactly-when : (b : List ℕ) (r j : ℕ) (x : Refusal) → (read-verdict b r j ≡ refuse x) ↔ Given-reading b r j x
 reading-given-exactly-when b r j x = (reading-gives b r j x, reading-refuses b r j x)
@@ -137,6 +141,11 @@ unfolding flatten-verdict
 flattening-refuses b k room x (flattening-before g) = then-refuses _ (to-flatten-refuses b k x g)
 flattening-refuses b k room x (flattening-NO-ROOM f h) = then-goes-on _ (none-refuses b k f) ∙ refuses _ _ (no-room-tells b k room) h
 
+pub flattening-passes :
+    (b : List ℕ) (k room : ℕ) → Flattens b k → flat-book-bytes (flat-length (book-of b) k) ≤ room → flatten-verdict b k room ≡ pass
+unfolding flatten-verdict
+flattening-passes b k room f h = then-goes-on _ (none-refuses b k f) ∙ goes-on _ _ (no-room-tells b k room) h
+
 pub flattening-given-exactly-when :
     (b : List ℕ) (k room : ℕ) (x : Refusal) → (flatten-verdict b k room ≡ refuse x) ↔ Given-flattening b k room x
 flattening-given-exactly-when b k room x = (flattening-gives b k room x, flattening-refuses b k room x)
@@ -169,6 +178,12 @@ quote-refuses b k x (quote-before g) = then-refuses _ (to-flatten-refuses b k x 
 quote-refuses b k x (quote-NOT-STEADY f s) = then-goes-on _ (none-refuses b k f) ∙ refuses _ _ (not-steady-tells b k (f .taken)) s
 quote-refuses b k x (quote-QUOTE f s q) =
     then-goes-on _ (none-refuses b k f) ∙ goes-on _ _ (not-steady-tells b k (f .taken)) s ∙ refuses _ _ (quote-tells b k) q
+
+pub quote-passes :
+    (b : List ℕ) (k : ℕ) → Flattens b k → Steady-routine (book-of b) k → quote (book-of b) k ≤ most-quote → quote-verdict b k ≡ pass
+unfolding quote-verdict
+quote-passes b k f s q =
+    then-goes-on _ (none-refuses b k f) ∙ goes-on _ _ (not-steady-tells b k (f .taken)) s ∙ goes-on _ _ (quote-tells b k) q
 
 pub quote-given-exactly-when : (b : List ℕ) (k : ℕ) (x : Refusal) → (quote-verdict b k ≡ refuse x) ↔ Given-quote b k x
 quote-given-exactly-when b k x = (quote-gives b k x, quote-refuses b k x)
@@ -260,6 +275,14 @@ shop-refuses input x (shop-LENGTH h l) =
 shop-refuses input x (shop-before h l g) =
     goes-on _ _ (below-tells (length input) trailer-length) h ∙ goes-on _ _ (above-tells (length input) most-input) l
     ∙ to-flatten-refuses _ _ x g
+
+pub shop-passes :
+    (input : List ℕ) → trailer-length ≤ length input → length input ≤ most-input → Flattens (book-read input) (routine-read input)
+    → shop-verdict input ≡ pass
+unfolding shop-verdict
+shop-passes input h l f =
+    goes-on _ _ (below-tells (length input) trailer-length) h ∙ goes-on _ _ (above-tells (length input) most-input) l
+    ∙ none-refuses (book-read input) (routine-read input) f
 
 pub shop-given-exactly-when : (input : List ℕ) (x : Refusal) → (shop-verdict input ≡ refuse x) ↔ Given-in-the-shop input x
 shop-given-exactly-when input x = (shop-gives input x, shop-refuses input x)

@@ -18,6 +18,7 @@ pub mod Depth
 pub mod Steady
 pub mod SteadyWords
 pub mod GivenByCalls
+pub mod Answers
 pub mod NoDepth
 -- the flat machine is source document 000's
 pub mod Registers

@@ -3,7 +3,7 @@
 use Prim.Native.Nat.{ℕ, _<_, _≤_}
 use mathlib.Core.List.{List}
 use lib.ListN.{length}
-use Rattle.scope.specs.Refusals.{SHORT, LENGTH, DEPTH, NO-ROUTINE, TOO-LONG, NO-ROOM, NOT-FLAT, REGISTERS, LINE, NOT-STEADY, QUOTE, Refusal, refusal}
+use Rattle.scope.specs.Refusals.{SHORT, LENGTH, DEPTH, NO-ROUTINE, TOO-LONG, NO-ROOM, NOT-FLAT, REGISTERS, LINE, NOT-STEADY, QUOTE, Refusal, refusal, refused, Call}
 use Rattle.scope.specs.Book.{routines, lines, count, Taken, book-of}
 use Rattle.scope.specs.Flattening.{flat-length, flat-book-bytes, most-flat-lines}
 use Rattle.scope.specs.Quote.{quote, most-quote}
@@ -67,6 +67,10 @@ pub data Given-bench (b : List ℕ) (line : ℕ) : Refusal → Type 0 where
   bench-NOT-FLAT : Taken b → 1 < routines b → Given-bench b line (refusal NOT-FLAT 0)
   -- | 17 | LINE | .. state's line above n .. |
   bench-LINE : Taken b → routines b ≤ 1 → lines b < line → Given-bench b line (refusal LINE 0)
+
+-- Nothing is written and no step is counted: a call that is refused answers the refusal, and leaves what it was lent as it was.
+abbrev pub refusing : {A L : Type 0} → Refusal → (lent : L) → Call A L
+refusing x lent = record { answer = refused x; left = lent }
 
 -- The shop's program. Under 74 bytes prints "REFUSED 1 0"; over 16,598 prints "REFUSED 5 0"; both before any other check. (14 to 17 do not
 -- come: it makes room for the flat book and runs it from line 0 with 32 registers.)
