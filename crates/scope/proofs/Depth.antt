@@ -98,9 +98,6 @@ module _ (book : Book) (ok : Callees-below book) where
   opens-below alone = omega arith
   opens-below {a} (around {b} u o) = omega (arith, ok a b u, opens-below o)
 
-  pub depth-at-most : (a : ℕ) → depth book a ≤ suc a
-  depth-at-most a = omega (arith, opens-below (depth-reached a .1))
-
   -- The test of 11 tells whether there is a chain of more than 32.
   pub depth-tells : (k : ℕ) → Tells (depth book k above most-open) (Opens-too-many book k) (¬ Opens-too-many book k)
   depth-tells k =
