@@ -2,25 +2,21 @@
 -- A chain goes down in number at each use, and of the routines used the deepest is one of them. Assumes nothing.
 use Prim.Native.Nat.{ℕ, zero, suc, _+_, _≤_, _<_, max}
 use mathlib.Core.Path.{_≡_, refl}
+use mathlib.Core.Logic.{⊎-elim}
 use mathlib.Core.List.{List, [], _∷_}
 use native.Mathlib.Omega.{arith}
 use native.Mathlib.Decide.{decLe}
 use lib.ListN.{drop}
 use Rattle.scope.specs.Words.{_above_}
-use Rattle.scope.specs.Book.{routines, Line, INC, DEC, GO-TO, CALL, REPEAT, Taken, Book, routine, book-of, used, Line-uses, by-CALL, by-REPEAT, Uses, Callees-below}
+use Rattle.scope.specs.Book.{routines, Line, Taken, Book, routine, book-of, used, Line-uses, Uses, Callees-below}
 use Rattle.scope.specs.Flattening.{most-open, deepest, depth-by, depth}
 use Rattle.scope.specs.Depth.{Opened, alone, around, Opens-too-many}
 use Rattle.scope.proofs.Verdicts.{Tells, in-words, above-tells}
 use Rattle.scope.proofs.Lists.{nothing-stands}
-use Rattle.scope.proofs.Lowest.{depth-by-the-rule}
+use Rattle.scope.proofs.Lowest.{used-is, one-used-or-none, depth-by-the-rule}
 use Rattle.scope.proofs.TakenBook.{taken-book, taken-callees-below}
 
 -- ---- the deepest of the routines that some lines use
-
-used-is : (f : ℕ → ℕ) {l : Line} {c : ℕ} → Line-uses l c → used 0 f l ≡ f c
-unfolding used
-used-is f by-CALL = refl
-used-is f by-REPEAT = refl
 
 deepest-bounds :
     (f : ℕ → ℕ) (ls : List Line) (i : ℕ) {l : Line} {rest : List Line} {c : ℕ} → drop i ls ≡ l ∷ rest → Line-uses l c → f c ≤ deepest f ls
@@ -28,7 +24,7 @@ unfolding deepest
 deepest-bounds f [] i e u = nothing-stands i e
 deepest-bounds f (m ∷ ls) zero {l} e u =
     let z : m ≡ l = cc in
-    rw z (omega (arith, used-is f u))
+    rw z (omega (arith, used-is 0 f u))
 deepest-bounds f (m ∷ ls) (suc i) e u = omega (arith, deepest-bounds f ls i e u)
 
 -- the lines use none with a number above 0, or one of those that they use has it
@@ -49,12 +45,7 @@ module _ {f : ℕ → ℕ} {l : Line} {ls : List Line} where
       go (no h) = let z : max m n ≡ m = omega arith in rw z x
 
 by-the-first : (f : ℕ → ℕ) (l : Line) (ls : List Line) → Deepest-is f (l ∷ ls) (used 0 f l)
-unfolding used
-by-the-first f (INC r) ls = none refl
-by-the-first f (DEC r t) ls = none refl
-by-the-first f (GO-TO t) ls = none refl
-by-the-first f (CALL c) ls = some 0 refl by-CALL refl
-by-the-first f (REPEAT r c) ls = some 0 refl by-REPEAT refl
+by-the-first f l ls = ⊎-elim none (λ u. some 0 refl (u .1) (u .2)) (one-used-or-none 0 f l)
 
 deepest-is : (f : ℕ → ℕ) (ls : List Line) → Deepest-is f ls (deepest f ls)
 unfolding deepest

@@ -4,6 +4,7 @@ use Prim.Native.Nat.{ℕ, zero, suc, _+_, _<_}
 use native.Mathlib.Omega.{arith}
 use mathlib.Core.Bool.{Bool, true, false}
 use mathlib.Core.Path.{_≡_, refl, fun-ext}
+use mathlib.Core.Logic.{_⊎_, inl, inr}
 use mathlib.Core.List.{List, [], _∷_}
 use lib.ListN.{drop}
 use Rattle.scope.specs.Ram.{Program}
@@ -54,6 +55,22 @@ module _ {A : Type 0} {f g : ℕ → A} where
   used-agrees nothing (GO-TO t) same = refl
   used-agrees nothing (CALL c) same = same c by-CALL
   used-agrees nothing (REPEAT r c) same = same c by-REPEAT
+
+-- What is said of the routine that a line uses is said of the line; where it uses none, nothing is.
+pub used-is : {A : Type 0} (nothing : A) (f : ℕ → A) {l : Line} {c : ℕ} → Line-uses l c → used nothing f l ≡ f c
+unfolding used
+used-is nothing f by-CALL = refl
+used-is nothing f by-REPEAT = refl
+
+pub one-used-or-none :
+    {A : Type 0} (nothing : A) (f : ℕ → A) (l : Line)
+    → (used nothing f l ≡ nothing) ⊎ ((c : ℕ) × Line-uses l c × (used nothing f l ≡ f c))
+unfolding used
+one-used-or-none nothing f (INC r) = inl refl
+one-used-or-none nothing f (DEC r t) = inl refl
+one-used-or-none nothing f (GO-TO t) = inl refl
+one-used-or-none nothing f (CALL c) = inr (c, by-CALL, refl)
+one-used-or-none nothing f (REPEAT r c) = inr (c, by-REPEAT, refl)
 
 line-length-agrees : (f g : ℕ → ℕ) (l : Line) → Agree-on f g l → line-length f l ≡ line-length g l
 unfolding line-length

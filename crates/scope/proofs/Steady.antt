@@ -4,16 +4,17 @@ use Prim.Native.Nat.{ℕ, zero, suc, _+_}
 use native.Mathlib.Omega.{arith}
 use mathlib.Core.Bool.{Bool, true, false, not, false≢true}
 use mathlib.Core.Path.{_≡_, refl, sym, _∙_}
+use mathlib.Core.Logic.{⊎-elim}
 use mathlib.Core.List.{List, [], _∷_}
 use lib.ListN.{drop}
 use borrow.Author.Tests.{not-true}
 use Rattle.scope.specs.Words.{if, _and_, _or_}
-use Rattle.scope.specs.Book.{Line, INC, DEC, GO-TO, CALL, REPEAT, Book, routine, used, Callees-below, said-below, from-the-lowest-up}
+use Rattle.scope.specs.Book.{Line, INC, DEC, GO-TO, CALL, REPEAT, Book, routine, used, Line-uses, Callees-below, said-below, from-the-lowest-up}
 use Rattle.scope.specs.Quote.{names, some-line, in-or-under-by, in-or-under, named, line-steady, lines-steady, steady-by, steady}
 use Rattle.scope.specs.Enough.{raises, raised, steady-where-not-raised}
 use Rattle.scope.proofs.Lists.{nothing-stands}
 use Rattle.scope.proofs.Verdicts.{itself-tells, or-tells, and-tells}
-use Rattle.scope.proofs.Lowest.{in-or-under-by-the-rule, steady-by-the-rule}
+use Rattle.scope.proofs.Lowest.{used-is, one-used-or-none, in-or-under-by-the-rule, steady-by-the-rule}
 
 -- ---- "and", "or"
 
@@ -67,12 +68,17 @@ no-line-is-such such f (suc i) (x ∷ ls) n e =
     let none = both-false (such x) (used false f x or some-line such f ls) n in
     no-line-is-such such f i ls (both-false (used false f x) (some-line such f ls) (none .1) .1) e
 
+-- A line that uses such a routine uses one.
+pub uses-such-a-one : (f : ℕ → Bool) (l : Line) → used false f l ≡ true → (c : ℕ) × Line-uses l c × (f c ≡ true)
+uses-such-a-one f l e =
+    ⊎-elim (λ none. absurd (false≢true (sym none ∙ e))) (λ u. (u .0, u .1, sym (u .2) ∙ e)) (one-used-or-none false f l)
+
 -- ---- more is steady where less is wrong
 
 some-line-more :
     (such such′ : Line → Bool) (f f′ : ℕ → Bool) → ((l : Line) → such l ≡ true → such′ l ≡ true) → ((c : ℕ) → f c ≡ true → f′ c ≡ true)
     → (ls : List Line) → some-line such f ls ≡ true → some-line such′ f′ ls ≡ true
-unfolding some-line used
+unfolding some-line
 some-line-more such such′ f f′ m n [] e = e
 some-line-more such such′ f f′ m n (l ∷ ls) e =
     or-more (such l) (used false f l or some-line such f ls) (such′ l) (used false f′ l or some-line such′ f′ ls) (m l)
@@ -80,11 +86,9 @@ some-line-more such such′ f f′ m n (l ∷ ls) e =
     (some-line-more such such′ f f′ m n ls)) e
   where
     used-more : (l : Line) → used false f l ≡ true → used false f′ l ≡ true
-    used-more (INC r) h = h
-    used-more (DEC r t) h = h
-    used-more (GO-TO t) h = h
-    used-more (CALL c) h = n c h
-    used-more (REPEAT r c) h = n c h
+    used-more l h =
+        let (c, u, t) = uses-such-a-one f l h in
+        used-is false f′ u ∙ n c t
 
 line-steady-more :
     (bad bad′ : ℕ → ℕ → Bool) (f f′ : ℕ → Bool) → ((j c : ℕ) → bad′ j c ≡ true → bad j c ≡ true) → ((c : ℕ) → f c ≡ true → f′ c ≡ true)

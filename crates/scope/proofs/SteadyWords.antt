@@ -10,13 +10,13 @@ use lib.ListN.{drop}
 use Rattle.scope.specs.Words.{_and_}
 use Rattle.scope.specs.Book.{Line, INC, DEC, GO-TO, CALL, REPEAT, Book, routine, used, Line-uses, by-CALL, by-REPEAT, Uses, Callees-below}
 use Rattle.scope.specs.Quote.{names, some-line, in-or-under-by, in-or-under, named, line-steady, lines-steady, steady-by, steady}
-use Rattle.scope.specs.Enough.{raises, raised}
+use Rattle.scope.specs.Enough.{raises, raised, Raises, INC-raises, Raised}
 use Rattle.scope.specs.Depth.{Opened, alone, around}
-use Rattle.scope.specs.SteadyWords.{Names, INC-names, DEC-names, REPEAT-names, Found-in-or-under, Named, Raises, INC-raises, Raised, Steady-routine, its-lines-are, Steady-line, CALL-steady, DEC-steady, GO-TO-steady, REPEAT-steady, INC-steady}
+use Rattle.scope.specs.SteadyWords.{Names, INC-names, DEC-names, REPEAT-names, Found-in-or-under, Named, Steady-routine, its-lines-are, Steady-line, CALL-steady, DEC-steady, GO-TO-steady, REPEAT-steady, INC-steady}
 use Rattle.scope.proofs.Lists.{nothing-stands}
 use Rattle.scope.proofs.Verdicts.{exactly-tells, itself-tells, is-tells, above-tells, or-tells, and-tells, not-tells}
-use Rattle.scope.proofs.Lowest.{in-or-under-by-the-rule, steady-by-the-rule}
-use Rattle.scope.proofs.Steady.{line-of-steady-lines}
+use Rattle.scope.proofs.Lowest.{used-is, in-or-under-by-the-rule, steady-by-the-rule}
+use Rattle.scope.proofs.Steady.{uses-such-a-one, line-of-steady-lines}
 
 -- ---- named, and raised, by a line
 
@@ -47,19 +47,6 @@ unfolding raises
 raises-by-words j (INC r) INC-raises = is-tells r r .when-true .1 refl
 
 -- ---- found in or under a routine: by one of its lines, or under a routine that a line uses
-
-uses-one : (f : ℕ → Bool) (l : Line) → used false f l ≡ true → (c : ℕ) × Line-uses l c × (f c ≡ true)
-unfolding used
-uses-one f (INC r) e = absurd (false≢true e)
-uses-one f (DEC r t) e = absurd (false≢true e)
-uses-one f (GO-TO t) e = absurd (false≢true e)
-uses-one f (CALL c) e = (c, by-CALL, e)
-uses-one f (REPEAT r c) e = (c, by-REPEAT, e)
-
-one-is-used : (f : ℕ → Bool) {l : Line} {c : ℕ} → Line-uses l c → f c ≡ true → used false f l ≡ true
-unfolding used
-one-is-used f by-CALL e = e
-one-is-used f by-REPEAT e = e
 
 module _ (such : Line → Bool) (f : ℕ → Bool) where
   -- one of the lines, where it stands: such a line, or one that uses a routine with such a line in it or under it
@@ -159,7 +146,7 @@ module _ (book : Book) (ok : Callees-below book) where
 
             under : used false (in-or-under book such) (o .line) ≡ true → Found-in-or-under book Such k
             under g =
-                let (c, u, t) = uses-one (in-or-under book such) (o .line) g in
+                let (c, u, t) = uses-such-a-one (in-or-under book such) (o .line) g in
                 let uses : Uses book k c =
                 record { at-line = o .at-line; line = o .line; rest = o .rest; stands = o .stands; line-uses = u } in
                 deeper uses (below c (omega (arith, ok k c uses)) t)
@@ -172,7 +159,7 @@ module _ (book : Book) (ok : Callees-below book) where
     found-is-so {a} (around u o) i e s =
         in-or-under-by-the-rule book ok such a
         ∙ by-one such (in-or-under book such) (routine book a) (u .at-line) (u .stands)
-        (inr (one-is-used (in-or-under book such) (u .line-uses) (found-is-so o i e s)))
+        (inr (used-is false (in-or-under book such) (u .line-uses) ∙ found-is-so o i e s))
 
     -- .. in the .. routine or in any routine used under it.
     pub in-or-under-exactly : (k : ℕ) → (in-or-under book such k ≡ true) ↔ Found-in-or-under book Such k

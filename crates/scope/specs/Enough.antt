@@ -9,6 +9,7 @@ use Rattle.scope.specs.Nested.{nested-run}
 use Rattle.scope.specs.Flattening.{flat-program}
 use Rattle.scope.specs.Running.{flat-run}
 use Rattle.scope.specs.Quote.{in-or-under, steady-by, quote}
+use Rattle.scope.specs.SteadyWords.{Found-in-or-under}
 
 -- INC raises its register, and no other line does.
 unfoldable pub raises : (register : ℕ) → Line → Bool
@@ -26,6 +27,13 @@ module _ (book : Book) where
   -- steady, but that a REPEAT line needs only that its register is not raised in or under the repeated routine
   unfoldable pub steady-where-not-raised : ℕ → Bool
   steady-where-not-raised = from-the-lowest-up true (steady-by book raised)
+
+-- "Raised" in plain words.
+pub data Raises (register : ℕ) : Line → Type 0 where
+  INC-raises : Raises register (INC register)
+
+unfoldable pub Raised : (book : Book) (register k : ℕ) → Type 0
+Raised book j k = Found-in-or-under book (Raises j) k
 
 -- It ended by itself, after at most so many steps.
 pub record Ends-within {P : Type 0} (most : ℕ) (e : End P) : Type 0 where

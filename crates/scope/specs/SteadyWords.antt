@@ -31,14 +31,6 @@ pub record Found-in-or-under (book : Book) (Such : Line → Type 0) (k : ℕ) : 
 unfoldable pub Named : (book : Book) (register k : ℕ) → Type 0
 Named book j k = Found-in-or-under book (Names j) k
 
--- INC raises its register, and no other line does.
-pub data Raises (register : ℕ) : Line → Type 0 where
-  INC-raises : Raises register (INC register)
-
--- raised by INC in routine k or in any routine used under it
-unfoldable pub Raised : (book : Book) (register k : ℕ) → Type 0
-Raised book j k = Found-in-or-under book (Raises j) k
-
 -- ---- steady
 
 mutual
