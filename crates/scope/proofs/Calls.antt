@@ -62,14 +62,19 @@ pub A-on-the-page :
 unfolding computed
 A-on-the-page = refl
 
--- The page runs C with a budget of 3, B from line 4, and is turned away with 63 bytes of registers, of which it changes none.
+-- The page runs C with a budget of 3 and of 2, B from line 4, and is turned away with 63 bytes of registers, of which it changes none.
 pub C-on-the-page :
     page-run (sample-B-and-C .flat) 0 (two-bytes-each (zeros but-R 3 holds 65535)) 3
+    ∷ page-run (sample-B-and-C .flat) 0 (two-bytes-each (zeros but-R 3 holds 65535)) 2
     ∷ page-run (sample-B-and-C .flat) 4 (two-bytes-each zeros) 9
     ∷ page-run (sample-B-and-C .flat) 0 (lent 63) 3
     ∷ []
     ≡ record {
       fields = record { refusal = 0; place = 0; outcome = 3; register = 3; steps = 2; line = 2 };
+      left = two-bytes-each (zeros but-R 3 holds 65535);
+    }
+    ∷ record {
+      fields = record { refusal = 0; place = 0; outcome = 2; register = 0; steps = 2; line = 2 };
       left = two-bytes-each (zeros but-R 3 holds 65535);
     }
     ∷ record {

@@ -6,32 +6,20 @@ use mathlib.Core.Path.{_≡_, refl, sym, _∙_, ap}
 use mathlib.Core.Logic.{inl, inr}
 use mathlib.Core.List.{List, [], _∷_, map}
 use lib.ListN.{length, take}
-use Rattle.scope.specs.Words.{if, listed}
+use Rattle.scope.specs.Words.{listed}
 use Rattle.scope.specs.Ram as ram
 use Rattle.scope.specs.Ram.{Instruction, Program, Has, has, Target-within, Targets-within}
-use Rattle.scope.specs.Book.{INC-kind, DEC-kind, GO-TO-kind, routines, lines, first-line, Line-fields, Line, INC, DEC, GO-TO, CALL, REPEAT, fields-of, line-of, fields-at, line-number, fields-in, Taken, Book, routine, routine-of, book-of, said-below, from-the-lowest-up}
+use Rattle.scope.specs.Book.{INC-kind, DEC-kind, GO-TO-kind, routines, lines, first-line, Line-fields, INC, DEC, GO-TO, fields-of, line-of, fields-at, line-number, fields-in, Taken, Book, routine, routine-of, book-of, said-below, from-the-lowest-up}
 use Rattle.scope.specs.Flattening.{line-length, sum-of, flat-length, start, copy-line, copy-lines, copy-by, copy, flat-program, as-line}
 use Rattle.scope.specs.Running.{instruction-of, program-of}
-use Rattle.scope.specs.Given.{Zero-stands, Has-callee}
+use Rattle.scope.specs.Given.{Has-callee}
 use Rattle.scope.proofs.Ram.{has-later}
-use Rattle.scope.proofs.Verdicts.{is-tells, either-way}
+use Rattle.scope.proofs.Verdicts.{if-true, if-false, is-tells, either-way}
 use Rattle.scope.proofs.Lists.{listed-map}
 use Rattle.scope.proofs.TakenProgram.{starts-at-0, counts-all, line-of-the-book, taken-program}
-use Rattle.scope.proofs.TakenBook.{Taken-line}
+use Rattle.scope.proofs.TakenBook.{Taken-line, fields-read-back}
 
 -- ---- one line
-
-pub same-fields : {f g : Line-fields} → f .kind ≡ g .kind → f .register ≡ g .register → f .operand ≡ g .operand → f ≡ g
-same-fields k r o = λ i. record { kind = k i; register = r i; operand = o i }
-
--- What is written of a line is read as that line.
-line-read-back : (l : Line) → line-of (fields-of l) ≡ l
-unfolding line-of fields-of if
-line-read-back (INC r) = refl
-line-read-back (DEC r t) = refl
-line-read-back (GO-TO t) = refl
-line-read-back (CALL c) = refl
-line-read-back (REPEAT r c) = refl
 
 -- In routine 0 a line that is neither INC nor DEC is GO TO: CALL and REPEAT would name a routine below it.
 only-GO-TO-is-left : (f : Line-fields) (n : ℕ) → Taken-line f 0 n → ¬ (f .kind ≡ INC-kind) → ¬ (f .kind ≡ DEC-kind) → f .kind ≡ GO-TO-kind
@@ -41,18 +29,21 @@ only-GO-TO-is-left f n t not-1 not-2 =
     let not-5 : ¬ (f .kind ≡ 5) = λ e. omega (arith, t .callee-below (inr e)) in
     omega (arith, t .kind-from-1, t .kind-to-5)
 
+line-as-instruction : (f : Line-fields) (n : ℕ) → Taken-line f 0 n → line-of f ≡ as-line (instruction-of f)
+unfolding line-of instruction-of as-line
+line-as-instruction f n t =
+    let C : Instruction → Type 0 = λ x. line-of f ≡ as-line x in
+    let first = is-tells (f .kind) INC-kind in
+    let second = is-tells (f .kind) DEC-kind in
+    let third = is-tells (f .kind) GO-TO-kind in
+    either-way C first (λ k. if-true _ _ _ (first .when-true .1 k)) λ not-1.
+    either-way C second (λ k. if-false _ _ _ (first .when-false .1 not-1) ∙ if-true _ _ _ (second .when-true .1 k)) λ not-2.
+    if-false _ _ _ (first .when-false .1 not-1) ∙ if-false _ _ _ (second .when-false .1 not-2)
+    ∙ if-true _ _ _ (third .when-true .1 (only-GO-TO-is-left f n t not-1 not-2))
+
 -- What is read of a line of routine 0 as an instruction is written as that line.
 pub fields-again : (f : Line-fields) (n : ℕ) → Taken-line f 0 n → fields-of (as-line (instruction-of f)) ≡ f
-unfolding instruction-of fields-of as-line Zero-stands
-fields-again f n t =
-    let C : Instruction → Type 0 = λ x. fields-of (as-line x) ≡ f in
-    either-way C (is-tells (f .kind) INC-kind) (λ k. same-fields (sym k) refl (sym (t .INC-operand-0 k))) λ not-1.
-    either-way C (is-tells (f .kind) DEC-kind) (λ k. same-fields (sym k) refl refl) λ not-2.
-    let k = only-GO-TO-is-left f n t not-1 not-2 in
-    same-fields (sym k) (sym (t .zero-where-0-stands (inl k))) refl
-
-line-as-instruction : (f : Line-fields) (n : ℕ) → Taken-line f 0 n → line-of f ≡ as-line (instruction-of f)
-line-as-instruction f n t = ap line-of (sym (fields-again f n t)) ∙ line-read-back (as-line (instruction-of f))
+fields-again f n t = ap fields-of (sym (line-as-instruction f n t)) ∙ fields-read-back f 0 n t
 
 -- ---- the whole book
 

@@ -8,7 +8,7 @@ use mathlib.Core.List.{List, [], _∷_}
 use lib.ListN.{length, drop, List·getD-eq-default}
 use lib.Seq.{drop-cons}
 use Rattle.scope.specs.Words.{listed}
-use Rattle.scope.specs.Book.{the-format, header-bytes, format, routine-table, line-table, line-table-due, most-routines, most-lines, last-register, routines, lines, stated-length, length-due, first-line, count, first-line-due, Line-fields, Line, INC, DEC, GO-TO, CALL, REPEAT, INC-kind, DEC-kind, GO-TO-kind, CALL-kind, REPEAT-kind, line-of, fields-in, Taken, routine, routine-of, book-of, Line-uses, by-CALL, by-REPEAT, Callees-below}
+use Rattle.scope.specs.Book.{the-format, header-bytes, format, routine-table, line-table, line-table-due, most-routines, most-lines, last-register, routines, lines, stated-length, length-due, first-line, count, first-line-due, Line-fields, Line, INC, DEC, GO-TO, CALL, REPEAT, INC-kind, DEC-kind, GO-TO-kind, CALL-kind, REPEAT-kind, fields-of, line-of, fields-in, Taken, routine, routine-of, book-of, Line-uses, by-CALL, by-REPEAT, Callees-below}
 use Rattle.scope.specs.Given.{Wrong-format, Wrong-counts, Wrong-offsets, Wrong-length, Wrong-entry, Wrong-end, Wrong-kind, Zero-stands, Wrong-register, Has-target, Wrong-target, Has-callee, Wrong-callee, Good-line, Good-in}
 use Rattle.scope.proofs.Verdicts.{one-holds, else-holds, above-tells, below-tells, not-below-tells, is-tells, is-not-tells, or-tells, either-way}
 use Rattle.scope.proofs.Lists.{length-listed, listed-at, listed-member}
@@ -148,6 +148,9 @@ what-stands b k j {l} e =
     let m = listed-member (λ i. l) 0 0 j j (rw (no-routine-from-R-on b k h) at e) (omega arith) in
     absurd (omega (arith, m .0))) (one-holds (below-tells k (routines b)))
 
+pub same-fields : {f g : Line-fields} → f .kind ≡ g .kind → f .register ≡ g .register → f .operand ≡ g .operand → f ≡ g
+same-fields k r o = λ i. record { kind = k i; register = r i; operand = o i }
+
 -- a line of routine k, which has n lines: its register is a register, its target a line or the end, its callee below
 pub data Line-fits (k n : ℕ) : Line → Type 0 where
   INC-fits : {r : ℕ} → r ≤ last-register → Line-fits k n (INC r)
@@ -164,6 +167,17 @@ taken-line-fits f k n t =
     either-way (Line-fits k n) (is-tells (f .kind) GO-TO-kind) (λ i. GO-TO-fits (t .target-to-the-end (inr i))) λ n3.
     either-way (Line-fits k n) (is-tells (f .kind) CALL-kind) (λ i. CALL-fits (t .callee-below (inl i))) λ n4.
     REPEAT-fits (t .register-to-31) (t .callee-below (inr (omega (arith, t .kind-from-1, t .kind-to-5))))
+
+-- The same table, read from the kind: what is read of a line is written as that line.
+pub fields-read-back : (f : Line-fields) (r n : ℕ) → Taken-line f r n → fields-of (line-of f) ≡ f
+unfolding line-of fields-of Zero-stands
+fields-read-back f r n t =
+    let C : Line → Type 0 = λ l. fields-of l ≡ f in
+    either-way C (is-tells (f .kind) INC-kind) (λ k. same-fields (sym k) refl (sym (t .INC-operand-0 k))) λ not-1.
+    either-way C (is-tells (f .kind) DEC-kind) (λ k. same-fields (sym k) refl refl) λ not-2.
+    either-way C (is-tells (f .kind) GO-TO-kind) (λ k. same-fields (sym k) (sym (t .zero-where-0-stands (inl k))) refl) λ not-3.
+    either-way C (is-tells (f .kind) CALL-kind) (λ k. same-fields (sym k) (sym (t .zero-where-0-stands (inr k))) refl) λ not-4.
+    same-fields (omega (arith, t .kind-from-1, t .kind-to-5)) refl refl
 
 -- Every line of a taken book fits.
 pub taken-lines-fit : (b : List ℕ) → Taken b → (k j : ℕ) {l : Line} {ls : List Line} → drop j (routine (book-of b) k) ≡ l ∷ ls

@@ -21,9 +21,9 @@ use Rattle.scope.specs.Running.{instruction-of, program-of}
 use Rattle.scope.proofs.Ram.{has-later}
 use Rattle.scope.proofs.Lists.{nothing-stands, listed-is}
 use Rattle.scope.proofs.GivenExactlyWhen.{taken-exactly-when}
-use Rattle.scope.proofs.TakenBook.{taken-book}
+use Rattle.scope.proofs.TakenBook.{taken-book, same-fields}
 use Rattle.scope.proofs.TakenProgram.{starts-at-0, counts-all, length-program-of, line-of-the-book}
-use Rattle.scope.proofs.OneRoutine.{same-fields, fields-again, one-routine-book}
+use Rattle.scope.proofs.OneRoutine.{fields-again, one-routine-book}
 
 -- ---- the header
 
