@@ -101,4 +101,4 @@ module _ (book : Book) (ok : Callees-below book) where
 
 pub no-more-than-32-open : (b : List ℕ) → Taken b → {k n c : ℕ} → k < routines b → Opened (book-of b) k n c → n ≤ most-open
 no-more-than-32-open b t h o =
-    omega (arith, h, opens-below (book-of b) (taken-callees-below b t) o, taken-book b t .routines-to-32)
+    omega (arith, h, opens-below (book-of b) (taken-callees-below b t) o, taken-book b t .header .routines-to-32)

@@ -134,6 +134,6 @@ one-routine-flattens b t one =
     record {
       taken = t;
       a-routine = omega (arith, one);
-      not-too-deep = λ o. omega (arith, no-more-than-32-open b t (T .some-routine) (o .opened), o .too-many);
-      not-too-long = omega (arith, length-flat-program (book-of b) 0, same, length-program-of b, T .lines-to-4096);
+      not-too-deep = λ o. omega (arith, no-more-than-32-open b t (T .header .some-routine) (o .opened), o .too-many);
+      not-too-long = omega (arith, length-flat-program (book-of b) 0, same, length-program-of b, T .header .lines-to-4096);
     }

@@ -22,7 +22,7 @@ header-gives b x =
     which-refuses (Given b) (offsets-tells b) (gives-OFFSETS ((s, f), c)) λ o.
     which-refuses (Given b) (length-tells b) (gives-LENGTH (((s, f), c), o)) λ l e. absurd (pass-is-no-refusal e)
 
-past-the-header : (b : List ℕ) → header-verdict b ≡ pass → Past-LENGTH b
+pub past-the-header : (b : List ℕ) → header-verdict b ≡ pass → Past-LENGTH b
 unfolding header-verdict header-test Past-SHORT Past-FORMAT Past-COUNTS Past-OFFSETS Past-LENGTH
 past-the-header b e =
     let s = finds-no-fault _ (short-tells b) e in
@@ -67,7 +67,7 @@ table-gives b x h e =
     which-refuses (Given b) (end-tells b) (gives-ROUTINE-last (h, right)) (λ n p. absurd (pass-is-no-refusal p)) (f .1))
     (which-then-refuses (first (entry-verdict b) (routines b)) e)
 
-table-passes : (b : List ℕ) → (table-verdict b ≡ pass) ↔ (((q : ℕ) → q < routines b → ¬ Wrong-entry b q) × (¬ Wrong-end b))
+pub table-passes : (b : List ℕ) → (table-verdict b ≡ pass) ↔ (((q : ℕ) → q < routines b → ¬ Wrong-entry b q) × (¬ Wrong-end b))
 unfolding table-verdict
 table-passes b =
     let f = entries-pass b (routines b) in (

@@ -8,11 +8,12 @@ use mathlib.Core.List.{List, [], _∷_}
 use lib.ListN.{length, drop, List·getD-eq-default}
 use lib.Seq.{drop-cons}
 use Rattle.scope.specs.Words.{listed}
-use Rattle.scope.specs.Book.{the-format, header-bytes, format, routine-table, line-table, line-table-due, most-routines, most-lines, last-register, routines, lines, stated-length, length-due, first-line, count, first-line-due, Line-fields, Line, INC, DEC, GO-TO, CALL, REPEAT, INC-kind, DEC-kind, GO-TO-kind, CALL-kind, REPEAT-kind, fields-of, line-of, fields-in, Taken, routine, routine-of, book-of, Line-uses, by-CALL, by-REPEAT, Callees-below}
-use Rattle.scope.specs.Given.{Wrong-format, Wrong-counts, Wrong-offsets, Wrong-length, Wrong-entry, Wrong-end, Wrong-kind, Zero-stands, Wrong-register, Has-target, Wrong-target, Has-callee, Wrong-callee, Good-line, Good-in}
-use Rattle.scope.proofs.Verdicts.{one-holds, else-holds, above-tells, below-tells, not-below-tells, is-tells, is-not-tells, or-tells, either-way}
+use Rattle.scope.specs.Refusals.{pass}
+use Rattle.scope.specs.Book.{the-format, header-bytes, format, routine-table, line-table, line-table-due, most-routines, most-lines, last-register, routines, lines, stated-length, length-due, first-line, count, first-line-due, Line-fields, Line, INC, DEC, GO-TO, CALL, REPEAT, INC-kind, DEC-kind, GO-TO-kind, CALL-kind, REPEAT-kind, fields-of, line-of, fields-in, header-verdict, table-verdict, book-verdict, Taken, routine, routine-of, book-of, Line-uses, by-CALL, by-REPEAT, Callees-below}
+use Rattle.scope.specs.Given.{Short, Past-SHORT, Past-FORMAT, Past-COUNTS, Past-OFFSETS, Past-LENGTH, Wrong-format, Wrong-counts, Wrong-offsets, Wrong-length, Wrong-entry, Wrong-end, Wrong-kind, Zero-stands, Wrong-register, Has-target, Wrong-target, Has-callee, Wrong-callee, Good-line, Good-in}
+use Rattle.scope.proofs.Verdicts.{one-holds, else-holds, above-tells, below-tells, not-below-tells, is-tells, is-not-tells, or-tells, either-way, then-passes}
 use Rattle.scope.proofs.Lists.{length-listed, listed-at, listed-member}
-use Rattle.scope.proofs.GivenExactlyWhen.{routines-in-order, taken-exactly-when}
+use Rattle.scope.proofs.GivenExactlyWhen.{past-the-header, table-passes, routines-in-order, taken-exactly-when}
 
 -- ---- the bytes
 
@@ -31,7 +32,9 @@ unfoldable pub lines-below : List ℕ → ℕ → ℕ
 lines-below b zero = 0
 lines-below b (suc r) = lines-below b r + count b r
 
-pub record Taken-book (b : List ℕ) : Type 0 where
+-- past the header's tests
+pub record Taken-header (b : List ℕ) : Type 0 where
+  pub has-a-header : header-bytes ≤ length b
   pub format-is-1 : format b ≡ the-format
   pub some-routine : 1 ≤ routines b
   pub routines-to-32 : routines b ≤ most-routines
@@ -40,6 +43,9 @@ pub record Taken-book (b : List ℕ) : Type 0 where
   pub line-table-as-due : line-table b ≡ line-table-due (routines b)
   pub stated-as-due : stated-length b ≡ length-due (routines b) (lines b)
   pub length-as-due : length b ≡ length-due (routines b) (lines b)
+
+pub record Taken-book (b : List ℕ) : Type 0 where
+  pub header : Taken-header b
   pub starts-where-due : (r : ℕ) → r < routines b → first-line b r ≡ first-line-due b r
   pub last-ends-at-L : first-line-due b (routines b) ≡ lines b
   pub in-order : (r q : ℕ) → r < q → q < routines b → first-line b r + count b r ≤ first-line b q
@@ -78,34 +84,55 @@ all-end-within b order (suc n) r e h l =
     let same : n ≡ r = omega arith in
     omega (arith, ap (λ i. first-line b i + count b i) same)) (one-holds (below-tells r n))
 
-pub taken-book : (b : List ℕ) → Taken b → Taken-book b
-unfolding Wrong-format Wrong-counts Wrong-offsets Wrong-length Wrong-entry Wrong-end Good-in
-taken-book b t =
-    let g = taken-exactly-when b .0 t in
+header-facts : (b : List ℕ) → Past-LENGTH b → Taken-header b
+unfolding Past-LENGTH Past-OFFSETS Past-COUNTS Past-FORMAT Past-SHORT Short Wrong-format Wrong-counts Wrong-offsets Wrong-length
+header-facts b p =
     let R = routines b in
     let L = lines b in
-    let c = else-holds (or-tells (is-tells R 0) (or-tells (above-tells R most-routines) (above-tells L most-lines))) (g .counts-right) in
+    let counts = or-tells (is-tells R 0) (or-tells (above-tells R most-routines) (above-tells L most-lines)) in
+    let c = else-holds counts (p .0 .0 .1) in
     let offsets =
     or-tells (is-not-tells (routine-table b) header-bytes)
     (or-tells (is-not-tells (line-table b) (line-table-due R)) (is-not-tells (stated-length b) (length-due R L))) in
-    let o = else-holds offsets (g .offsets-right) in
-    let s : (r : ℕ) → r < routines b → first-line b r ≡ first-line-due b r =
-    λ r h. else-holds (is-not-tells (first-line b r) (first-line-due b r)) (g .entries-right r h) in
-    let e = else-holds (is-not-tells (first-line-due b (routines b)) (lines b)) (g .end-right) in
-    let order = routines-in-order b (g .entries-right) in
+    let o = else-holds offsets (p .0 .1) in
     record {
-      format-is-1 = else-holds (is-not-tells (format b) the-format) (g .format-right);
+      has-a-header = else-holds (below-tells (length b) header-bytes) (p .0 .0 .0 .0);
+      format-is-1 = else-holds (is-not-tells (format b) the-format) (p .0 .0 .0 .1);
       some-routine = omega (arith, c .0);
       routines-to-32 = c .1 .0;
       lines-to-4096 = c .1 .1;
       routine-table-as-due = o .0;
       line-table-as-due = o .1 .0;
       stated-as-due = o .1 .1;
-      length-as-due = else-holds (is-not-tells (length b) (stated-length b)) (g .length-right) ∙ o .1 .1;
+      length-as-due = else-holds (is-not-tells (length b) (stated-length b)) (p .1) ∙ o .1 .1;
+    }
+
+pub taken-header : (b : List ℕ) → header-verdict b ≡ pass → Taken-header b
+taken-header b e = header-facts b (past-the-header b e)
+
+-- Past the table's tests, no routine ends behind the last line.
+pub table-ends-within : (b : List ℕ) → table-verdict b ≡ pass → (r : ℕ) → r < routines b → first-line b r + count b r ≤ lines b
+unfolding Wrong-end
+table-ends-within b e r h =
+    let t = table-passes b .0 e in
+    all-end-within b (routines-in-order b (t .0)) (routines b) r refl h
+    (else-holds (is-not-tells (first-line-due b (routines b)) (lines b)) (t .1))
+
+pub taken-book : (b : List ℕ) → Taken b → Taken-book b
+unfolding book-verdict Wrong-entry Wrong-end Good-in
+taken-book b t =
+    let g = taken-exactly-when b .0 t in
+    let past = then-passes (header-verdict b) t in
+    let table = then-passes (table-verdict b) (past .1) .0 in
+    let s : (r : ℕ) → r < routines b → first-line b r ≡ first-line-due b r =
+    λ r h. else-holds (is-not-tells (first-line b r) (first-line-due b r)) (g .entries-right r h) in
+    let e = else-holds (is-not-tells (first-line-due b (routines b)) (lines b)) (g .end-right) in
+    record {
+      header = taken-header b (past .0);
       starts-where-due = s;
       last-ends-at-L = e;
-      in-order = order;
-      ends-within = λ r h. all-end-within b order (routines b) r refl h e;
+      in-order = routines-in-order b (g .entries-right);
+      ends-within = table-ends-within b table;
       starts-after-those-below = λ r h. s r h ∙ below-is-due b s r (omega arith);
       counts-sum-to-L = sym (below-is-due b s (routines b) (omega arith)) ∙ e;
       lines-right = λ r j h l. good-line-is-taken (fields-in b r j) r (count b r) (g .lines-good r j h l);

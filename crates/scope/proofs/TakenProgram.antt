@@ -54,7 +54,7 @@ fits f n t =
 module _ (b : List ℕ) (taken : Taken b) (flat : routines b ≡ 1) where
   pub starts-at-0 : first-line b 0 ≡ 0
   unfolding first-line-due
-  starts-at-0 = taken-book b taken .starts-where-due 0 (taken-book b taken .some-routine)
+  starts-at-0 = taken-book b taken .starts-where-due 0 (taken-book b taken .header .some-routine)
 
   pub counts-all : count b 0 ≡ lines b
   unfolding first-line-due
@@ -65,7 +65,7 @@ module _ (b : List ℕ) (taken : Taken b) (flat : routines b ≡ 1) where
   line-of-the-book p h =
       let k = taken-book b taken in
       let same : line-number b 0 p ≡ p = omega (arith, starts-at-0) in
-      rw (same, counts-all) at (k .lines-right 0 p (k .some-routine) (omega (arith, counts-all)))
+      rw (same, counts-all) at (k .lines-right 0 p (k .header .some-routine) (omega (arith, counts-all)))
 
   pub taken-program : Our-program (program-of b)
   unfolding Registers-within Targets-within

@@ -244,6 +244,11 @@ unfolding answer-of
 refused-exactly-when pass values x = (λ e. absurd (accepted-is-not-refused e), λ e. absurd (pass-is-no-refusal e))
 refused-exactly-when (refuse y) values x = (λ e. cc, λ e. cc)
 
+pub accepted-only-where-passed : {A : Type 0} (v : Verdict) {values a : A} → answer-of v values ≡ accepted a → (v ≡ pass) × (values ≡ a)
+unfolding answer-of
+accepted-only-where-passed pass e = (refl, cc)
+accepted-only-where-passed (refuse y) e = absurd (accepted-is-not-refused (sym e))
+
 pub accepted-where-passed : {A : Type 0} {v : Verdict} (values : A) → v ≡ pass → answer-of v values ≡ accepted values
 unfolding answer-of
 accepted-where-passed values e = rw e

@@ -12,7 +12,7 @@ use Rattle.scope.specs.Words.{if, listed}
 use Rattle.scope.specs.Ram as ram
 use Rattle.scope.specs.Ram.{Instruction, Program, has, Target-within, Targets-within}
 use Rattle.scope.specs.Book.{the-format, most-lines, header-bytes, byte, Bytes, two-byte, two-bytes, two-bytes-each, format, routines, lines, routine-table, line-table, stated-length, line-table-due, length-due, first-line, count, first-line-due, INC, DEC, GO-TO, fields-of, line-offset, fields-at, line-number, fields-in, Taken}
-use Rattle.scope.specs.Flattening.{bytes-of-fields, as-line, bytes-of-program, flat-book, flat-book-bytes}
+use Rattle.scope.specs.Flattening.{bytes-of-fields, as-line, bytes-of-program, flat-header, flat-book, flat-book-bytes}
 use Rattle.scope.specs.Given.{Short, Wrong-format, Wrong-counts, Wrong-offsets, Wrong-length, Wrong-entry, Wrong-end, Wrong-kind, Zero-stands, Wrong-register, Has-target, Wrong-target, Has-callee, Wrong-callee, Good-line, Good-in, Good-book}
 use Rattle.scope.specs.FlatBook.{Fits-a-book, Says}
 use Rattle.scope.specs.Transitions.{Register-within, Registers-within}
@@ -43,7 +43,7 @@ record Front (P : Program) : Type 0 where
   count-n : count (flat-book P) 0 ≡ length P
 
 front : (P : Program) → length P ≤ most-lines → Front P
-unfolding format routines lines routine-table line-table stated-length first-line count two-byte byte flat-book two-bytes-each two-bytes length-due line-table-due
+unfolding format routines lines routine-table line-table stated-length first-line count two-byte byte flat-book flat-header two-bytes-each two-bytes length-due line-table-due
 front P h =
     record {
       format-1 = refl;
@@ -65,11 +65,11 @@ length-of-bytes (x ∷ P) = omega (arith, length-of-bytes P)
 
 -- The result is .. 16 bytes plus 4 a line.
 pub length-flat-book : (P : Program) → length (flat-book P) ≡ flat-book-bytes (length P)
-unfolding flat-book two-bytes-each two-bytes flat-book-bytes
+unfolding flat-book flat-header two-bytes-each two-bytes flat-book-bytes
 length-flat-book P = omega (arith, length-of-bytes P)
 
 behind-the-front : (P : Program) (q k : ℕ) → q ≡ 16 + k → byte (flat-book P) q ≡ getD (bytes-of-program P) k 0
-unfolding byte flat-book two-bytes-each two-bytes
+unfolding byte flat-book flat-header two-bytes-each two-bytes
 behind-the-front P q k e =
     let z : q ≡ suc (suc (suc (suc (suc (suc (suc (suc (suc (suc (suc (suc (suc (suc (suc (suc k))))))))))))))) = omega arith in
     rw z
@@ -132,7 +132,7 @@ lines-are-bytes (x ∷ P) h =
     one-more (small .0) (one-more (small .1) (two-more (fields-of (as-line x) .operand) rest))
 
 written-are-bytes : (P : Program) → Registers-within register-count P → Bytes (flat-book P)
-unfolding flat-book
+unfolding flat-book flat-header
 written-are-bytes P h = are-bytes (both-bytes (both-bytes (numbers-are-bytes _) (numbers-are-bytes _)) (lines-are-bytes P h))
 
 -- ---- what is read is what was written
@@ -290,7 +290,7 @@ module _ (b : List ℕ) (bytes : Bytes b) where
   module _ (t : Taken b) (one : routines b ≡ 1) where
     its-length : length b ≡ 16 + 4 * lines b
     unfolding length-due line-table-due
-    its-length = omega (arith, (rw one at (taken-book b t .length-as-due)))
+    its-length = omega (arith, (rw one at (taken-book b t .header .length-as-due)))
 
     lines-stand : (n i q : ℕ) → i + n ≡ lines b → q ≡ 16 + 4 * i
         → drop q b ≡ bytes-of-program (listed (λ k. instruction-of (fields-at b k)) i n)
@@ -312,18 +312,18 @@ module _ (b : List ℕ) (bytes : Bytes b) where
     unfolding listed numbers-in-front format routines lines routine-table line-table stated-length first-line count
     they-stand-in-front =
         let T = taken-book b t in
-        let f : two-byte b 0 ≡ the-format = T .format-is-1 in
+        let f : two-byte b 0 ≡ the-format = T .header .format-is-1 in
         let r : two-byte b 2 ≡ 1 = one in
-        let u : two-byte b 6 ≡ header-bytes = T .routine-table-as-due in
-        let v : two-byte b 8 ≡ line-table-due 1 = rw one at (T .line-table-as-due) in
-        let w : two-byte b 10 ≡ length-due 1 (lines b) = rw one at (T .stated-as-due) in
+        let u : two-byte b 6 ≡ header-bytes = T .header .routine-table-as-due in
+        let v : two-byte b 8 ≡ line-table-due 1 = rw one at (T .header .line-table-as-due) in
+        let w : two-byte b 10 ≡ length-due 1 (lines b) = rw one at (T .header .stated-as-due) in
         let x : two-byte b 12 ≡ 0 = starts-at-0 b t one in
         let y : two-byte b 14 ≡ lines b = counts-all b t one in
         cc
 
     -- The program that a book with one routine says is written as that very book.
     pub writing-after-reading : flat-book (program-of b) ≡ b
-    unfolding flat-book two-bytes-each two-bytes program-of numbers-in-front
+    unfolding flat-book flat-header two-bytes-each two-bytes program-of numbers-in-front
     writing-after-reading =
         rw (length-program-of b)
         (sym (numbers-stand 8 0 0 16 refl refl (omega (arith, its-length))
