@@ -1,3 +1,4 @@
 pub mod Rules
 pub mod Scanned
 pub mod Answers
+pub mod Written

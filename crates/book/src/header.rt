@@ -16,7 +16,7 @@ pub const ENTRY_BYTES: usize = 4;
 
 pub const LINE_BYTES: usize = 4;
 
-const THE_FORMAT: u16 = 1;
+pub(crate) const THE_FORMAT: u16 = 1;
 
 const MOST_ROUTINES: u16 = 32;
 
