@@ -5,7 +5,7 @@ use native.Mathlib.Omega.{arith}
 use mathlib.Core.Path.{_≡_, refl, sym, _∙_, ap}
 use mathlib.Core.List.{List, [], _∷_, map, nil≢cons}
 use lib.ListN.{length, getD, drop}
-use lib.Seq.{drop-nil, drop-drop}
+use lib.Seq.{drop-nil, drop-drop, drop-cons}
 use Rattle.scope.specs.Words.{listed}
 
 pub nothing-stands : {A B : Type 0} {x : A} {xs : List A} (i : ℕ) → drop i [] ≡ x ∷ xs → B
@@ -27,6 +27,11 @@ module _ {A : Type 0} where
   listed-at f i zero j k d h e = absurd (omega arith)
   listed-at f i (suc n) zero k d h e = ap f (omega arith)
   listed-at f i (suc n) (suc j) k d h e = listed-at f (suc i) n j k d (omega arith) (omega arith)
+
+  pub listed-stands : (f : ℕ → A) (n j : ℕ) → j < n → drop j (listed f 0 n) ≡ f j ∷ drop (suc j) (listed f 0 n)
+  listed-stands f n j h =
+      drop-cons (listed f 0 n) j (f 0) (rw (length-listed f 0 n) h)
+      ∙ ap (λ x. x ∷ drop (suc j) (listed f 0 n)) (listed-at f 0 n j j (f 0) h (omega arith))
 
   pub listed-member : (f : ℕ → A) (i n j k : ℕ) {x : A} {rest : List A} → drop j (listed f i n) ≡ x ∷ rest → k ≡ i + j
       → (j < n) × (x ≡ f k)

@@ -6,13 +6,12 @@ use mathlib.Core.Path.{_≡_, refl, sym, _∙_, ap}
 use mathlib.Core.Logic.{inl, inr, ⊎-elim}
 use mathlib.Core.List.{List, [], _∷_}
 use lib.ListN.{length, drop, List·getD-eq-default}
-use lib.Seq.{drop-cons}
-use Rattle.scope.specs.Words.{listed}
+use Rattle.scope.specs.Words.{if, listed}
 use Rattle.scope.specs.Refusals.{pass}
 use Rattle.scope.specs.Book.{the-format, header-bytes, format, routine-table, line-table, line-table-due, most-routines, most-lines, last-register, routines, lines, stated-length, length-due, first-line, count, first-line-due, Line-fields, Line, INC, DEC, GO-TO, CALL, REPEAT, INC-kind, DEC-kind, GO-TO-kind, CALL-kind, REPEAT-kind, fields-of, line-of, fields-in, header-verdict, table-verdict, book-verdict, Taken, routine, routine-of, book-of, Line-uses, by-CALL, by-REPEAT, Callees-below}
 use Rattle.scope.specs.Given.{Short, Past-SHORT, Past-FORMAT, Past-COUNTS, Past-OFFSETS, Past-LENGTH, Wrong-format, Wrong-counts, Wrong-offsets, Wrong-length, Wrong-entry, Wrong-end, Wrong-kind, Zero-stands, Wrong-register, Has-target, Wrong-target, Has-callee, Wrong-callee, Good-line, Good-in}
 use Rattle.scope.proofs.Verdicts.{one-holds, else-holds, above-tells, below-tells, not-below-tells, is-tells, is-not-tells, or-tells, either-way, then-passes}
-use Rattle.scope.proofs.Lists.{length-listed, listed-at, listed-member}
+use Rattle.scope.proofs.Lists.{length-listed, listed-at, listed-stands, listed-member}
 use Rattle.scope.proofs.GivenExactlyWhen.{past-the-header, table-passes, routines-in-order, taken-exactly-when}
 
 -- ---- the bytes
@@ -156,9 +155,7 @@ length-routine-of b r = length-listed _ 0 (count b r)
 pub stands-in-its-routine : (b : List ℕ) (r j : ℕ) → j < count b r
     → drop j (routine-of b r) ≡ line-of (fields-in b r j) ∷ drop (suc j) (routine-of b r)
 unfolding routine-of
-stands-in-its-routine b r j h =
-    drop-cons (routine-of b r) j (INC 0) (rw (length-routine-of b r) h)
-    ∙ ap (λ l. l ∷ drop (suc j) (routine-of b r)) (listed-at (λ i. line-of (fields-in b r i)) 0 (count b r) j j (INC 0) h (omega arith))
+stands-in-its-routine b r j h = listed-stands (λ i. line-of (fields-in b r i)) (count b r) j h
 
 -- What stands in the book at line j of routine k is line j of that routine.
 pub record Stands-in (b : List ℕ) (k j : ℕ) (l : Line) : Type 0 where
@@ -186,7 +183,7 @@ pub data Line-fits (k n : ℕ) : Line → Type 0 where
   CALL-fits : {c : ℕ} → c < k → Line-fits k n (CALL c)
   REPEAT-fits : {r c : ℕ} → r ≤ last-register → c < k → Line-fits k n (REPEAT r c)
 
-taken-line-fits : (f : Line-fields) (k n : ℕ) → Taken-line f k n → Line-fits k n (line-of f)
+pub taken-line-fits : (f : Line-fields) (k n : ℕ) → Taken-line f k n → Line-fits k n (line-of f)
 unfolding line-of Has-target Has-callee
 taken-line-fits f k n t =
     either-way (Line-fits k n) (is-tells (f .kind) INC-kind) (λ i. INC-fits (t .register-to-31)) λ n1.
@@ -205,6 +202,15 @@ fields-read-back f r n t =
     either-way C (is-tells (f .kind) GO-TO-kind) (λ k. same-fields (sym k) (sym (t .zero-where-0-stands (inl k))) refl) λ not-3.
     either-way C (is-tells (f .kind) CALL-kind) (λ k. same-fields (sym k) (sym (t .zero-where-0-stands (inr k))) refl) λ not-4.
     same-fields (omega (arith, t .kind-from-1, t .kind-to-5)) refl refl
+
+-- .. and what is written of a line is read as that line.
+pub line-read-back : (l : Line) → line-of (fields-of l) ≡ l
+unfolding line-of fields-of if
+line-read-back (INC r) = refl
+line-read-back (DEC r t) = refl
+line-read-back (GO-TO t) = refl
+line-read-back (CALL c) = refl
+line-read-back (REPEAT r c) = refl
 
 -- Every line of a taken book fits.
 pub taken-lines-fit : (b : List ℕ) → Taken b → (k j : ℕ) {l : Line} {ls : List Line} → drop j (routine (book-of b) k) ≡ l ∷ ls

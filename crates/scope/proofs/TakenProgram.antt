@@ -1,11 +1,11 @@
 -- A taken book of one routine says a program of our machine, of L lines; so its steps are transitions, and its runs end exactly where they lead.
 -- No routine lies below its only one, so it has no CALL and no REPEAT, and its lines are the lines of the book. Assumes nothing.
-use Prim.Native.Nat.{ℕ, _≤_, _<_}
+use Prim.Native.Nat.{ℕ, suc, _≤_, _<_}
 use mathlib.Core.Path.{_≡_, _∙_}
 use mathlib.Core.Logic.{_↔_, _≢_, inl, inr}
-use mathlib.Core.List.{List}
+use mathlib.Core.List.{List, _∷_}
 use native.Mathlib.Omega.{arith}
-use lib.ListN.{length, getD}
+use lib.ListN.{length, getD, drop}
 use lib.Seq.{drop-cons}
 use Rattle.scope.specs.Ram.{Instruction, Has, has, Target-within, Targets-within}
 use Rattle.scope.specs.Book.{routines, lines, first-line, first-line-due, count, Line-fields, INC-kind, DEC-kind, CALL-kind, REPEAT-kind, fields-at, line-number, fields-in, Taken}
@@ -14,7 +14,7 @@ use Rattle.scope.specs.Steps.{register-count, Registers, By-itself, End}
 use Rattle.scope.specs.Running.{flat-run, instruction-of, program-of}
 use Rattle.scope.specs.Transitions.{Register-within, Registers-within, Our-program, Step-is-transition, Run-ends}
 use Rattle.scope.proofs.Verdicts.{is-tells, either-way}
-use Rattle.scope.proofs.Lists.{length-listed, listed-at}
+use Rattle.scope.proofs.Lists.{length-listed, listed-at, listed-stands}
 use Rattle.scope.proofs.TakenBook.{Taken-line, taken-book}
 use Rattle.scope.proofs.Ram.{has-below}
 use Rattle.scope.proofs.StepIsRam.{step-is-ram}
@@ -25,6 +25,12 @@ use Rattle.scope.proofs.RunExactly.{run-exactly, more-budget}
 pub length-program-of : (b : List ℕ) → length (program-of b) ≡ lines b
 unfolding program-of
 length-program-of b = length-listed _ 0 (lines b)
+
+-- Flat line p stands at p, and behind it the lines after it.
+pub program-stands : (b : List ℕ) (p : ℕ) → p < lines b
+    → drop p (program-of b) ≡ instruction-of (fields-at b p) ∷ drop (suc p) (program-of b)
+unfolding program-of
+program-stands b p h = listed-stands (λ i. instruction-of (fields-at b i)) (lines b) p h
 
 instruction-at : (b : List ℕ) (p : ℕ) {I : Instruction} → Has (program-of b) p I → I ≡ instruction-of (fields-at b p)
 unfolding program-of
@@ -67,6 +73,10 @@ module _ (b : List ℕ) (taken : Taken b) (flat : routines b ≡ 1) where
       let same : line-number b 0 p ≡ p = omega (arith, starts-at-0) in
       rw (same, counts-all) at (k .lines-right 0 p (k .header .some-routine) (omega (arith, counts-all)))
 
+  pub instruction-within : (p : ℕ) → p < lines b
+      → Register-within register-count (instruction-of (fields-at b p)) × Target-within (lines b) (instruction-of (fields-at b p))
+  instruction-within p h = fits (fields-at b p) (lines b) (line-of-the-book p h)
+
   pub taken-program : Our-program (program-of b)
   unfolding Registers-within Targets-within
   taken-program = record { registers-within = λ p I h. each p h .0; targets-within = λ p I h. each p h .1 }
@@ -74,7 +84,7 @@ module _ (b : List ℕ) (taken : Taken b) (flat : routines b ≡ 1) where
       each : (p : ℕ) {I : Instruction} → Has (program-of b) p I → Register-within register-count I × Target-within (length (program-of b)) I
       each p h =
           rw (instruction-at b p h, length-program-of b)
-          (fits (fields-at b p) (lines b) (line-of-the-book p (omega (arith, has-below h, length-program-of b))))
+          (instruction-within p (omega (arith, has-below h, length-program-of b)))
 
   inside : {line : ℕ} → line ≤ lines b → line ≤ length (program-of b)
   inside h = rw (length-program-of b) h

@@ -58,7 +58,7 @@ front P h =
 
 -- ---- the lines
 
-length-of-bytes : (P : Program) → length (bytes-of-program P) ≡ 4 * length P
+pub length-of-bytes : (P : Program) → length (bytes-of-program P) ≡ 4 * length P
 unfolding bytes-of-program bytes-of-fields two-bytes
 length-of-bytes [] = refl
 length-of-bytes (x ∷ P) = omega (arith, length-of-bytes P)

@@ -1,22 +1,19 @@
+-- `flat::instruction_of` is the instruction that the fields say.
+-- Each kind of the code is the table's next one. Assumes nothing.
 use Rattle.book.proofs.flat.instruction_of.Statement.{statement}
 use Rattle.book.proofs.flat.instruction_of.Tie as tie
-use Rattle.book.proofs.flat.instruction_of.Reads as reads
-use Rattle.book.proofs.flat.instruction_of.Lts as lts
 use Rattle.scope.specs.Running.{instruction-of}
 use Rattle.book.proofs.Rules.{tests}
 use Rattle.book.specs.Told.{instruction-told, fields-told}
 
--- src/flat.rt:107:9
 returns : tie.Need-returns
 unfolding instruction-told instruction-of fields-told
 returns c = search tests
 
--- src/flat.rt:110:9
 returns-2 : tie.Need-returns-2
 unfolding instruction-told instruction-of fields-told
 returns-2 c = search tests
 
--- src/flat.rt:102:1
 returns-3 : tie.Need-returns-3
 unfolding instruction-told instruction-of fields-told
 returns-3 c = search tests

@@ -1,20 +1,16 @@
+-- `header::counts_of` has the counts that the header states.
+-- Each is read where it stands, and twelve bytes are there. Assumes nothing.
 use borrow.Author.Needs.{needs}
 use Rattle.book.proofs.header.counts_of.Statement.{statement}
 use Rattle.book.proofs.header.counts_of.Tie as tie
-use Rattle.book.proofs.header.counts_of.Reads as reads
-use Rattle.book.proofs.header.counts_of.Lts as lts
-use Rattle.book.proofs.numbers.two_byte.Reads as two-byte-reads
 use Rattle.scope.specs.Book.{routines, lines}
 
--- src/header.rt:124:19
 two-byte-requires : tie.Need-two-byte-requires
 two-byte-requires c κs = search needs
 
--- src/header.rt:125:16
 two-byte-requires-2 : tie.Need-two-byte-requires-2
 two-byte-requires-2 c κs = search needs
 
--- src/header.rt:119:1
 returns : tie.Need-returns
 unfolding routines lines
 returns c = search needs

@@ -1,21 +1,18 @@
+-- `lines::callee_wrong` is test 10 of the definitions.
+-- Each comparison of the code is one of the test's, in its order. Assumes nothing.
 use Rattle.book.proofs.lines.callee_wrong.Statement.{statement}
 use Rattle.book.proofs.lines.callee_wrong.Tie as tie
-use Rattle.book.proofs.lines.callee_wrong.Reads as reads
-use Rattle.book.proofs.lines.callee_wrong.Lts as lts
 use Rattle.book.proofs.Rules.{tests}
 use Rattle.scope.specs.Book.{callee-wrong}
 
--- src/lines.rt:95:9
 returns : tie.Need-returns
 unfolding callee-wrong
 returns c = search tests
 
--- src/lines.rt:98:9
 returns-2 : tie.Need-returns-2
 unfolding callee-wrong
 returns-2 c = search tests
 
--- src/lines.rt:91:1
 returns-3 : tie.Need-returns-3
 unfolding callee-wrong
 returns-3 c = search tests

@@ -1,16 +1,14 @@
+-- `lines::kind_wrong` is test 7 of the definitions.
+-- Each comparison of the code is one of the test's, in its order. Assumes nothing.
 use Rattle.book.proofs.lines.kind_wrong.Statement.{statement}
 use Rattle.book.proofs.lines.kind_wrong.Tie as tie
-use Rattle.book.proofs.lines.kind_wrong.Reads as reads
-use Rattle.book.proofs.lines.kind_wrong.Lts as lts
 use Rattle.book.proofs.Rules.{tests}
 use Rattle.scope.specs.Book.{kind-wrong}
 
--- src/lines.rt:56:9
 returns : tie.Need-returns
 unfolding kind-wrong
 returns c = search tests
 
--- src/lines.rt:52:1
 returns-2 : tie.Need-returns-2
 unfolding kind-wrong
 returns-2 c = search tests

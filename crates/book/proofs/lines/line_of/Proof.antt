@@ -1,32 +1,27 @@
+-- `lines::line_of` is the line that the fields say.
+-- Each kind of the code is the table's next one. Assumes nothing.
 use Rattle.book.proofs.lines.line_of.Statement.{statement}
 use Rattle.book.proofs.lines.line_of.Tie as tie
-use Rattle.book.proofs.lines.line_of.Reads as reads
-use Rattle.book.proofs.lines.line_of.Lts as lts
 use Rattle.scope.specs.Book.{line-of}
 use Rattle.book.proofs.Rules.{tests}
 use Rattle.book.specs.Told.{line-told, fields-told}
 
--- src/lines.rt:179:9
 returns : tie.Need-returns
 unfolding line-told line-of fields-told
 returns c = search tests
 
--- src/lines.rt:182:9
 returns-2 : tie.Need-returns-2
 unfolding line-told line-of fields-told
 returns-2 c = search tests
 
--- src/lines.rt:185:9
 returns-3 : tie.Need-returns-3
 unfolding line-told line-of fields-told
 returns-3 c = search tests
 
--- src/lines.rt:188:9
 returns-4 : tie.Need-returns-4
 unfolding line-told line-of fields-told
 returns-4 c = search tests
 
--- src/lines.rt:174:1
 returns-5 : tie.Need-returns-5
 unfolding line-told line-of fields-told
 returns-5 c = search tests

@@ -1,70 +1,52 @@
+-- `lines::line_test` is a line's row of tests.
+-- Each test of the code is the row's next one: it refuses as the row does, or the row goes on. Assumes nothing.
 use borrow.Author.Needs.{needs}
 use Rattle.book.proofs.lines.line_test.Statement.{statement}
 use Rattle.book.proofs.lines.line_test.Tie as tie
-use Rattle.book.proofs.lines.line_test.Reads as reads
-use Rattle.book.proofs.lines.line_test.Lts as lts
-use Rattle.book.proofs.lines.callee_wrong.Reads as callee-wrong-reads
-use Rattle.book.proofs.lines.kind_wrong.Reads as kind-wrong-reads
-use Rattle.book.proofs.lines.register_wrong.Reads as register-wrong-reads
-use Rattle.book.proofs.lines.target_wrong.Reads as target-wrong-reads
-use Rattle.book.proofs.refusals.refuse.Reads as refuse-reads
 use Rattle.book.proofs.Rules.{refusing}
 use Rattle.scope.specs.Book.{line-test}
 use Rattle.book.specs.Told.{name-told, verdict-told}
 
--- src/lines.rt:107:8
 kind-wrong-requires : tie.Need-kind-wrong-requires
 kind-wrong-requires c κs = search needs
 
--- src/lines.rt:108:9
 refuse-requires : tie.Need-refuse-requires
 refuse-requires c κs = search needs
 
--- src/lines.rt:108:9
 returns : tie.Need-returns
 unfolding line-test name-told verdict-told
 returns c = search refusing
 
--- src/lines.rt:110:8
 register-wrong-requires : tie.Need-register-wrong-requires
 register-wrong-requires c κs = search needs
 
--- src/lines.rt:111:9
 refuse-requires-2 : tie.Need-refuse-requires-2
 refuse-requires-2 c κs = search needs
 
--- src/lines.rt:111:9
 returns-2 : tie.Need-returns-2
 unfolding line-test name-told verdict-told
 returns-2 c = search refusing
 
--- src/lines.rt:113:8
 target-wrong-requires : tie.Need-target-wrong-requires
 target-wrong-requires c κs = search needs
 
--- src/lines.rt:114:9
 refuse-requires-3 : tie.Need-refuse-requires-3
 refuse-requires-3 c κs = search needs
 
--- src/lines.rt:114:9
 returns-3 : tie.Need-returns-3
 unfolding line-test name-told verdict-told
 returns-3 c = search refusing
 
--- src/lines.rt:116:8
 callee-wrong-requires : tie.Need-callee-wrong-requires
 callee-wrong-requires c κs = search needs
 
--- src/lines.rt:117:9
 refuse-requires-4 : tie.Need-refuse-requires-4
 refuse-requires-4 c κs = search needs
 
--- src/lines.rt:117:9
 returns-4 : tie.Need-returns-4
 unfolding line-test name-told verdict-told
 returns-4 c = search refusing
 
--- src/lines.rt:104:1
 returns-5 : tie.Need-returns-5
 unfolding line-test name-told verdict-told
 returns-5 c = search refusing

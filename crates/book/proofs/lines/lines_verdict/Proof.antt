@@ -1,12 +1,8 @@
+-- `lines::lines_verdict` is the lines' verdict: the lowest bad line is the one named.
+-- The loops keep that all routines below r, and of routine r all lines below j, pass (`Passed-to`); R - r and the count less j fall. Assumes nothing.
 use borrow.Author.Needs.{needs}
 use Rattle.book.proofs.lines.lines_verdict.Statement.{statement}
 use Rattle.book.proofs.lines.lines_verdict.Tie as tie
-use Rattle.book.proofs.lines.lines_verdict.Reads as reads
-use Rattle.book.proofs.lines.lines_verdict.Lts as lts
-use Rattle.book.proofs.lines.fields_at.Reads as fields-at-reads
-use Rattle.book.proofs.lines.line_test.Reads as line-test-reads
-use Rattle.book.proofs.table.count.Reads as count-reads
-use Rattle.book.proofs.table.first_line.Reads as first-line-reads
 use Prim.Native.Nat.{_-_}
 use Rattle.scope.specs.Book.{line-verdict, routine-verdict}
 use Rattle.book.specs.Told.{verdict-told}
@@ -24,72 +20,55 @@ Inv-book b routines r₀ r = Passed-to (routine-verdict b) routines r
 abbrev μ-book : tie.MeasureT-book
 μ-book b routines r₀ r = routines - r
 
--- src/lines.rt:143:5
 book-holds : tie.Need-book-holds Inv-loop μ-loop Inv-book μ-book
 book-holds c = search none-yet
 
--- src/lines.rt:147:13
 first-line-requires : tie.Need-first-line-requires Inv-loop μ-loop Inv-book μ-book
 first-line-requires c κs = search needs
 
--- src/lines.rt:148:13
 count-requires : tie.Need-count-requires Inv-loop μ-loop Inv-book μ-book
 count-requires c κs = search needs
 
--- src/lines.rt:150:9
 loop-holds : tie.Need-loop-holds Inv-loop μ-loop Inv-book μ-book
 loop-holds c = search none-yet
 
--- src/lines.rt:151:25
 add-place : tie.Need-add-place Inv-loop μ-loop Inv-book μ-book
 add-place c = search place-fits
 
--- src/lines.rt:152:37
 fields-at-requires : tie.Need-fields-at-requires Inv-loop μ-loop Inv-book μ-book
 fields-at-requires c κs = search line-within
 
--- src/lines.rt:152:17
 line-test-requires : tie.Need-line-test-requires Inv-loop μ-loop Inv-book μ-book
 line-test-requires c κs = search needs
 
--- src/lines.rt:154:33
 enum-known-verdict : tie.Need-enum-known-verdict Inv-loop μ-loop Inv-book μ-book
 enum-known-verdict c = search needs
 
--- src/lines.rt:158:21
 enum-told : tie.Need-enum-told Inv-loop μ-loop Inv-book μ-book
 enum-told c = search needs
 
--- src/lines.rt:158:21
 add-j : tie.Need-add-j Inv-loop μ-loop Inv-book μ-book
 add-j c = search needs
 
--- src/lines.rt:150:9
 loop-less : tie.Need-loop-less Inv-loop μ-loop Inv-book μ-book
 loop-less c = search needs
 
--- src/lines.rt:150:9
 loop-again : tie.Need-loop-again Inv-loop μ-loop Inv-book μ-book
 loop-again c = search line-passed
 
--- src/lines.rt:162:9
 add-r : tie.Need-add-r Inv-loop μ-loop Inv-book μ-book
 add-r c = search needs
 
--- src/lines.rt:143:5
 book-less : tie.Need-book-less Inv-loop μ-loop Inv-book μ-book
 book-less c = search needs
 
--- src/lines.rt:143:5
 book-again : tie.Need-book-again Inv-loop μ-loop Inv-book μ-book
 book-again c = search routine-passed
 
--- src/lines.rt:137:1
 returns : tie.Need-returns Inv-loop μ-loop Inv-book μ-book
 unfolding verdict-told
 returns c = search lines-right
 
--- src/lines.rt:137:1
 returns-2 : tie.Need-returns-2 Inv-loop μ-loop Inv-book μ-book
 returns-2 c = search line-refused
 

@@ -1,28 +1,22 @@
+-- `table::count` is the number of the routine's lines, as its entry says.
+-- It is read where it stands. Assumes nothing.
 use borrow.Author.Needs.{needs}
 use Rattle.book.proofs.table.count.Statement.{statement}
 use Rattle.book.proofs.table.count.Tie as tie
-use Rattle.book.proofs.table.count.Reads as reads
-use Rattle.book.proofs.table.count.Lts as lts
-use Rattle.book.proofs.numbers.two_byte.Reads as two-byte-reads
 use Rattle.scope.specs.Book.{count}
 
--- src/table.rt:29:32
 mul-two-byte : tie.Need-mul-two-byte
 mul-two-byte c = search needs
 
--- src/table.rt:29:17
 add-two-byte : tie.Need-add-two-byte
 add-two-byte c = search needs
 
--- src/table.rt:29:17
 add-two-byte-2 : tie.Need-add-two-byte-2
 add-two-byte-2 c = search needs
 
--- src/table.rt:29:5
 two-byte-requires : tie.Need-two-byte-requires
 two-byte-requires c κs = search needs
 
--- src/table.rt:25:1
 returns : tie.Need-returns
 unfolding count
 returns c = cc

@@ -1,11 +1,8 @@
+-- `table::table_verdict` is the table's verdict.
+-- The loop keeps that all entries below r pass and where routine r has to start (`Due`); R - r falls. Assumes nothing.
 use borrow.Author.Needs.{needs}
 use Rattle.book.proofs.table.table_verdict.Statement.{statement}
 use Rattle.book.proofs.table.table_verdict.Tie as tie
-use Rattle.book.proofs.table.table_verdict.Reads as reads
-use Rattle.book.proofs.table.table_verdict.Lts as lts
-use Rattle.book.proofs.refusals.refuse.Reads as refuse-reads
-use Rattle.book.proofs.table.count.Reads as count-reads
-use Rattle.book.proofs.table.first_line.Reads as first-line-reads
 use Prim.Native.Nat.{_-_}
 use Rattle.book.specs.Told.{name-told, verdict-told}
 use Rattle.book.proofs.Scanned.{Due, due-at-first, due-next, entry-refused, end-refused, table-right}
@@ -16,69 +13,53 @@ Inv-loop b routines lines due₀ r₀ due r = Due b routines due r
 abbrev μ-loop : tie.MeasureT-loop
 μ-loop b routines lines due₀ r₀ due r = routines - r
 
--- src/table.rt:41:5
 loop-holds : tie.Need-loop-holds Inv-loop μ-loop
 loop-holds c = search due-at-first
 
--- src/table.rt:42:21
 first-line-requires : tie.Need-first-line-requires Inv-loop μ-loop
 first-line-requires c κs = search needs
 
--- src/table.rt:42:21
 cast-first : tie.Need-cast-first Inv-loop μ-loop
 cast-first c = search needs
 
--- src/table.rt:44:13
 refuse-requires : tie.Need-refuse-requires Inv-loop μ-loop
 refuse-requires c κs = search needs
 
--- src/table.rt:44:13
 returns : tie.Need-returns Inv-loop μ-loop
 unfolding name-told
 returns c = search entry-refused
 
--- src/table.rt:46:23
 count-requires : tie.Need-count-requires Inv-loop μ-loop
 count-requires c κs = search needs
 
--- src/table.rt:46:23
 cast-due : tie.Need-cast-due Inv-loop μ-loop
 cast-due c = search needs
 
--- src/table.rt:46:15
 add-due : tie.Need-add-due Inv-loop μ-loop
 add-due c = search needs
 
--- src/table.rt:47:9
 add-r : tie.Need-add-r Inv-loop μ-loop
 add-r c = search needs
 
--- src/table.rt:41:5
 loop-less : tie.Need-loop-less Inv-loop μ-loop
 loop-less c = search needs
 
--- src/table.rt:41:5
 loop-again : tie.Need-loop-again Inv-loop μ-loop
 loop-again c = search due-next
 
--- src/table.rt:49:15
 cast-if2 : tie.Need-cast-if2 Inv-loop μ-loop
 cast-if2 c = search needs
 
--- src/table.rt:50:38
 sub-refuse : tie.Need-sub-refuse Inv-loop μ-loop
 sub-refuse c = search needs
 
--- src/table.rt:50:9
 refuse-requires-2 : tie.Need-refuse-requires-2 Inv-loop μ-loop
 refuse-requires-2 c κs = search needs
 
--- src/table.rt:50:9
 returns-2 : tie.Need-returns-2 Inv-loop μ-loop
 unfolding name-told
 returns-2 c = search end-refused
 
--- src/table.rt:33:1
 returns-3 : tie.Need-returns-3 Inv-loop μ-loop
 unfolding verdict-told
 returns-3 c = search table-right

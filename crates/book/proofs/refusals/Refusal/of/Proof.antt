@@ -1,11 +1,10 @@
+-- `Refusal::of` tells the refusal of that name and place.
+-- It is made of them. Assumes nothing.
 use Rattle.book.proofs.refusals.Refusal.of.Statement.{statement}
 use Rattle.book.proofs.refusals.Refusal.of.Tie as tie
-use Rattle.book.proofs.refusals.Refusal.of.Reads as reads
-use Rattle.book.proofs.refusals.Refusal.of.Lts as lts
 use mathlib.Core.Path.{refl}
 use Rattle.book.specs.Told.{refusal-told}
 
--- src/refusals.rt:37:5
 returns : tie.Need-returns
 unfolding refusal-told
 returns c = refl
