@@ -1,3 +1,4 @@
 pub mod Told
 pub mod Asked
+pub mod Limits
 pub mod Written

@@ -4,6 +4,7 @@ ghost use Prim.Native.Nat.{_+_, _<_, _≤_};
 ghost use lib.ListN.{length};
 ghost use Rattle.scope.specs.Book.{kind-wrong, register-wrong, target-wrong, callee-wrong, line-test, line-bytes, line-of, count, line-offset, fields-at, fields-in, line-verdict, lines-verdict};
 ghost use Rattle.book.specs.Told.{fields-told, line-told, verdict-told};
+ghost use Rattle.book.specs.Limits.{limits, within};
 ghost use Rattle.book.specs.Asked.{Tabled, Line-within, Taken-with};
 use super::header::Counts;
 use super::header::ENTRY_BYTES;
@@ -40,6 +41,8 @@ pub(crate) const CALL: u8 = 4;
 pub(crate) const REPEAT: u8 = 5;
 
 const LAST_REGISTER: u8 = 31;
+// A row of limits has room for kinds 0 to 7.
+const KINDS: usize = 8;
 
 // The four bytes of a line, as they stand.
 pub(crate) struct Fields {
@@ -133,6 +136,60 @@ pub(crate) fn fields_at(b: &[u8], routines: u16, i: u16) -> Fields
     }
 }
 
+// What a line's register has to be below, for kinds 0 to 7, and then what its operand has to be below, so that nothing of 7 to 10 is wrong.
+fn limits(caller: u16, count: u16) -> [u32; 16]
+    ensures { λ r. ⌜ r ≡ limits caller count ⌝ }
+{
+    let register = LAST_REGISTER as u32 + 1;
+    let target = count as u32 + 1;
+    let callee = caller as u32;
+    [
+        0,
+        register,
+        register,
+        1,
+        1,
+        register,
+        0,
+        0,
+        0,
+        1,
+        target,
+        target,
+        callee,
+        callee,
+        0,
+        0,
+    ]
+}
+
+// A look at the limits costs the same for every kind of line.
+fn within(f: Fields, row: &[u32; 16]) -> bool
+    ensures { λ r. ⌜ r ≡ within (now (row .entry)) (f .kind) (f .register) (f .operand) ⌝ }
+{
+    let kind = f.kind as usize;
+    if KINDS <= kind {
+        return false;
+    }
+    let register = f.register as u32;
+    if row[kind] <= register {
+        return false;
+    }
+    let operand = f.operand as u32;
+    operand < row[KINDS + kind]
+}
+
+// A line within its limits passes; any other is tested, and so the number that is wrong is found.
+fn line_verdict(f: Fields, caller: u16, count: u16, place: u16, row: &[u32; 16]) -> Verdict
+    requires { ⌜ now row ≡ limits caller count ⌝ }
+    ensures { λ r. ⌜ verdict-told r ≡ line-test (f .kind) (f .register) (f .operand) caller count place ⌝ }
+{
+    if within(f, row) {
+        return Verdict::Pass;
+    }
+    line_test(f, caller, count, place)
+}
+
 // The lowest bad line is the one named, found routine by routine.
 pub(crate) fn lines_verdict(b: &[u8], counts: Counts) -> Verdict
     requires { ⌜ Tabled (now b) counts ⌝ }
@@ -146,10 +203,11 @@ pub(crate) fn lines_verdict(b: &[u8], counts: Counts) -> Verdict
         }
         let first = table::first_line(b, r);
         let count = table::count(b, r);
+        let row = limits(r, count);
         let mut j: u16 = 0;
         while j < count {
             let place = first + j;
-            let verdict = line_test(fields_at(b, routines, place), r, count, place);
+            let verdict = line_verdict(fields_at(b, routines, place), r, count, place, &row);
             match verdict {
                 Verdict::Refuse(x) => {
                     break 'book Verdict::Refuse(x);

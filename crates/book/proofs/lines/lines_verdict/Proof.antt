@@ -9,10 +9,10 @@ use Rattle.book.specs.Told.{verdict-told}
 use Rattle.book.proofs.Scanned.{Passed-to, none-yet, place-fits, line-within, line-passed, line-refused, routine-passed, lines-right}
 
 abbrev Inv-loop : tie.InvT-loop
-Inv-loop b routines r first count j₀ j = Passed-to (line-verdict b r) count j
+Inv-loop b routines r first count row j₀ j = Passed-to (line-verdict b r) count j
 
 abbrev μ-loop : tie.MeasureT-loop
-μ-loop b routines r first count j₀ j = count - j
+μ-loop b routines r first count row j₀ j = count - j
 
 abbrev Inv-book : tie.InvT-book
 Inv-book b routines r₀ r = Passed-to (routine-verdict b) routines r
@@ -29,6 +29,9 @@ first-line-requires c κs = search needs
 count-requires : tie.Need-count-requires Inv-loop μ-loop Inv-book μ-book
 count-requires c κs = search needs
 
+limits-requires : tie.Need-limits-requires Inv-loop μ-loop Inv-book μ-book
+limits-requires c κs = search needs
+
 loop-holds : tie.Need-loop-holds Inv-loop μ-loop Inv-book μ-book
 loop-holds c = search none-yet
 
@@ -38,8 +41,8 @@ add-place c = search place-fits
 fields-at-requires : tie.Need-fields-at-requires Inv-loop μ-loop Inv-book μ-book
 fields-at-requires c κs = search line-within
 
-line-test-requires : tie.Need-line-test-requires Inv-loop μ-loop Inv-book μ-book
-line-test-requires c κs = search needs
+line-verdict-requires : tie.Need-line-verdict-requires Inv-loop μ-loop Inv-book μ-book
+line-verdict-requires c κs = search needs
 
 enum-known-verdict : tie.Need-enum-known-verdict Inv-loop μ-loop Inv-book μ-book
 enum-known-verdict c = search needs
@@ -83,10 +86,11 @@ lines-verdict-spec =
     book-holds
     first-line-requires
     count-requires
+    limits-requires
     loop-holds
     add-place
     fields-at-requires
-    line-test-requires
+    line-verdict-requires
     enum-known-verdict
     enum-told
     add-j
