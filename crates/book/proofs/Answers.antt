@@ -1,15 +1,14 @@
 -- The answers of checking and of reading: one law for each way out, and what a book that passes so far gives to the next test.
 -- A verdict in hand is the definition's, so a refusal is the call's answer and a pass lets the next test decide. Assumes nothing.
-use Prim.Native.Nat.{ℕ, _+_, _*_, _<_, _≤_}
-use native.Mathlib.Omega.{arith}
-use mathlib.Core.Path.{_≡_, refl, sym, _∙_, ap}
+use Prim.Native.Nat.{ℕ, _<_, _≤_}
+use mathlib.Core.Path.{_≡_, sym, _∙_, ap}
 use mathlib.Core.List.{List}
 use lib.ListN.{length}
 use Rattle.scope.specs.Refusals as paper
-use Rattle.scope.specs.Refusals.{NO-ROUTINE, LINE, pass, refuse, refusal, refused, accepted, answer-of}
+use Rattle.scope.specs.Refusals.{NO-ROUTINE, LINE, pass, refuse, refusal, accepted}
 use Rattle.scope.specs.Book as book
-use Rattle.scope.specs.Book.{header-bytes, entry-bytes, routines, lines, line-table-due, length-due, header-verdict, count, table-verdict, fields-of, line-of, fields-in, lines-verdict, book-verdict, Taken, check-answer, read-verdict, read-answer}
-use Rattle.scope.proofs.Verdicts.{not-below-tells, refuses, goes-on, finds-no-fault, then-goes-on, then-refuses, then-passes, accepted-only-where-passed, accepted-where-passed, refused-exactly-when}
+use Rattle.scope.specs.Book.{header-bytes, routines, line-table-due, length-due, header-verdict, count, table-verdict, fields-of, line-of, fields-in, lines-verdict, book-verdict, Taken, check-answer, read-verdict, read-answer}
+use Rattle.scope.proofs.Verdicts.{not-below-tells, refuses, goes-on, then-goes-on, then-refuses, then-passes, accepted-only-where-passed, accepted-where-passed, refused-exactly-when}
 use Rattle.scope.proofs.TakenBook.{taken-header, taken-book, fields-read-back}
 use Rattle.book.specs.declared.header.Counts.{Counts}
 use Rattle.book.specs.declared.lines.Line.{Line}

@@ -26,8 +26,11 @@ so-then t x a b e f = e ∙ sym (if-true t a b f)
 pub so-else : {A : Type 0} (t : Bool) (x a b : A) → t ≡ false → x ≡ b → x ≡ if t a b
 so-else t x a b f e = e ∙ sym (if-false t a b f)
 
+-- tests that the code makes in place
 pub ruleset tests = (needs, if-true, if-false, lt-ltb, le-ltb, le-leb, lt-leb, eq-eqb, ne-eqb, eq-not, ne-not)
 
-pub ruleset calls = (if-true, if-false, via)
+-- tests that it makes by calls
+pub ruleset calls = (if-true, if-false, via, ne-eqb)
 
+-- rows of tests, each of which refuses or leaves it to the next
 pub ruleset refusing = (so-then, so-else, via, lt-ltb, le-ltb, eq-not, ne-not)

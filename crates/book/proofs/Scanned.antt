@@ -1,6 +1,6 @@
 -- Tests in a loop: while all have passed the loop goes on, the first refusal is the answer, and where none is left all pass.
 -- A loop keeps how far all have passed (`Passed-to`); one law for each way out of the table's loop and of the lines' loops. Assumes nothing.
-use Prim.Native.Nat.{ℕ, zero, suc, _+_, _-_, _<_, _≤_}
+use Prim.Native.Nat.{ℕ, _+_, _-_, _<_, _≤_}
 use native.Mathlib.Omega.{arith}
 use native.Mathlib.Numerals.{add-one}
 use mathlib.Core.Path.{_≡_, refl, sym, _∙_, ap}
@@ -8,7 +8,7 @@ use mathlib.Core.Logic.{_≢_}
 use mathlib.Core.List.{List}
 use mir.Syntax.{w16}
 use mir.Val.{Fits}
-use Rattle.scope.specs.Refusals.{ROUTINE, Refusal, refusal, Verdict, pass, refuse, _and-then_, first}
+use Rattle.scope.specs.Refusals.{ROUTINE, Refusal, refusal, Verdict, pass, refuse, first}
 use Rattle.scope.specs.Book.{routines, lines, first-line, count, first-line-due, entry-verdict, table-verdict, Line-fields, line-test, fields-at, line-number, fields-in, line-verdict, routine-verdict, lines-verdict}
 use Rattle.scope.proofs.Verdicts.{is-not-tells, refuses, goes-on, then-goes-on, then-refuses, one-more-passes, first-hit}
 use Rattle.scope.proofs.TakenBook.{table-ends-within}
@@ -18,7 +18,7 @@ use Rattle.book.specs.declared.refusals.Refusal.{Refusal as Refused}
 use Rattle.book.specs.declared.refusals.Verdict.{Verdict as Told}
 use Rattle.book.specs.declared.refusals.Verdict.the-variants.{Pass, Refuse}
 use Rattle.book.specs.Told.{fields-told, verdict-told}
-use Rattle.book.specs.Asked.{Sized, Tabled, Line-within}
+use Rattle.book.specs.Asked.{Tabled, Line-within}
 
 -- ---- any row of tests
 

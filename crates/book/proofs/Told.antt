@@ -1,11 +1,10 @@
 -- No two answers tell the same: each is got back from what it tells.
 -- By the cases of each type; what is got back from what x tells is x, so two that tell the same are the same. Assumes nothing.
-use Prim.Native.Nat.{ℕ}
 use mathlib.Core.Path.{_≡_, refl, sym, _∙_, ap}
 use Rattle.scope.specs.Refusals as paper
 use Rattle.scope.specs.Refusals.{Answer, refused, accepted}
 use Rattle.scope.specs.Book as book
-use Rattle.scope.specs.Book.{Line-fields, fields-of, line-of}
+use Rattle.scope.specs.Book.{Line-fields, line-of}
 use Rattle.scope.specs.Ram as ram
 use Rattle.scope.proofs.TakenBook.{line-read-back}
 use Rattle.book.specs.declared.refusals.Name.{Name}

@@ -1,6 +1,5 @@
 -- What each answer tells, in document 01's names, numbers and values: one clause a case, and nothing is worked out.
 -- Assumes nothing.
-use Prim.Native.Nat.{ℕ}
 use Rattle.scope.specs.Refusals as paper
 use Rattle.scope.specs.Refusals.{Answer, refused, accepted, refusal}
 use Rattle.scope.specs.Book as book

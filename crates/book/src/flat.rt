@@ -1,6 +1,6 @@
 // A flat book: a book with one routine, each of its lines INC, DEC or GO TO. It is written a piece at a time, and read line by line.
 ghost use mathlib.Core.Path.{_≡_};
-ghost use Prim.Native.Nat.{_+_, _<_, _≤_};
+ghost use Prim.Native.Nat.{_+_, _≤_};
 ghost use mathlib.Core.List.{[], _∷_};
 ghost use lib.ListN.{length};
 ghost use Rattle.scope.specs.Book.{two-bytes-each, line-bytes, fields-of, fields-at};
@@ -21,6 +21,9 @@ use super::lines::Reg;
 use super::lines::fields_at;
 use super::numbers::high;
 use super::numbers::low;
+
+// The front of a flat book: its header, and the entry of its one routine.
+pub const FRONT_BYTES: usize = HEADER_BYTES + ENTRY_BYTES;
 
 // A flat line number, kept apart from a routine's.
 pub struct FlatLine(pub u16);
@@ -57,7 +60,7 @@ pub fn put_header(out: &mut [u8], n: u16)
     requires { ⌜ flat-book-bytes 0 ≤ length (now out) ⌝ }
     ensures { λ _. ⌜ now (out .exit) ≡ with-bytes (now (out .entry)) 0 (flat-header n) ⌝ }
 {
-    let front = (HEADER_BYTES + ENTRY_BYTES) as u16;
+    let front = FRONT_BYTES as u16;
     put_two(out, 0, THE_FORMAT, 1);
     put_two(out, 4, n, HEADER_BYTES as u16);
     put_two(out, 8, front, front + LINE_BYTES as u16 * n);
@@ -94,7 +97,7 @@ pub fn put_line(out: &mut [u8], i: FlatLine, x: Instruction)
 {
     let f = fields_of(x);
     let operand = f.operand;
-    let at = HEADER_BYTES + ENTRY_BYTES + LINE_BYTES * i.0 as usize;
+    let at = FRONT_BYTES + LINE_BYTES * i.0 as usize;
     put_four(out, at, f.kind, f.register, low(operand), high(operand));
 }
 

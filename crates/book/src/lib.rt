@@ -1,10 +1,11 @@
 // A book's bytes: checking it, and reading one line of it. The book is the caller's slice, and no copy of it is made.
 pub mod flat; // flat.rt: a flat book's lines, written and read
 pub mod header; // header.rt: the twelve bytes at the front, tests 1 to 5
-pub mod lines; // lines.rt: what stands in a line, tests 7 to 10
+pub mod lines; // lines.rt: what stands in a line
 mod numbers; // numbers.rt: two-byte numbers in the bytes
 pub mod refusals; // refusals.rt: the table of refusals
 pub mod table; // table.rt: where each routine starts and how many lines it has, test 6
+mod tests; // tests.rt: the lines' tests, 7 to 10
 
 ghost use mathlib.Core.Path.{_≡_};
 ghost use Rattle.scope.specs.Book.{book-verdict, check-answer, read-answer};
@@ -46,7 +47,7 @@ fn book_verdict(b: &[u8]) -> Verdict
         }
         Verdict::Pass => {}
     }
-    lines::lines_verdict(b, counts)
+    tests::lines_verdict(b, counts)
 }
 
 // Taken, with its counts, or refused.

@@ -6,9 +6,6 @@ use Rattle.book.proofs.flat.put_header.Tie as tie
 use Rattle.scope.specs.Flattening.{flat-book-bytes}
 use Rattle.book.proofs.Written.{header-written}
 
-add-front : tie.Need-add-front
-add-front c = search needs
-
 cast-front : tie.Need-cast-front
 cast-front c = search needs
 
@@ -51,7 +48,6 @@ pub put-header-spec : {M : Type 1} → statement M
 put-header-spec =
     tie.close
     (tie.spec
-    add-front
     cast-front
     put-two-requires
     cast-put-two

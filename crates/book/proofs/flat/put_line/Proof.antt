@@ -10,17 +10,14 @@ use Rattle.book.specs.Told.{fields-told}
 fields-of-requires : tie.Need-fields-of-requires
 fields-of-requires c κs = search needs
 
-add-at : tie.Need-add-at
-add-at c = search needs
-
 cast-at : tie.Need-cast-at
 cast-at c = search needs
 
 mul-at : tie.Need-mul-at
 mul-at c = search needs
 
-add-at-2 : tie.Need-add-at-2
-add-at-2 c = search needs
+add-at : tie.Need-add-at
+add-at c = search needs
 
 low-requires : tie.Need-low-requires
 low-requires c κs = search needs
@@ -44,10 +41,9 @@ put-line-spec =
     tie.close
     (tie.spec
     fields-of-requires
-    add-at
     cast-at
     mul-at
-    add-at-2
+    add-at
     low-requires
     high-requires
     put-four-requires

@@ -1,8 +1,8 @@
--- `lines::limits` is the row of limits.
+-- `tests::limits` is the row of limits.
 -- It is made so; no sum wraps. Assumes nothing.
 use borrow.Author.Needs.{needs}
-use Rattle.book.proofs.lines.limits.Statement.{statement}
-use Rattle.book.proofs.lines.limits.Tie as tie
+use Rattle.book.proofs.tests.limits.Statement.{statement}
+use Rattle.book.proofs.tests.limits.Tie as tie
 use mathlib.Core.Path.{refl}
 use Rattle.book.specs.Limits.{limits}
 

@@ -1,8 +1,8 @@
--- `lines::line_test` is a line's row of tests.
+-- `tests::line_test` is a line's row of tests.
 -- Each test of the code is the row's next one: it refuses as the row does, or the row goes on. Assumes nothing.
 use borrow.Author.Needs.{needs}
-use Rattle.book.proofs.lines.line_test.Statement.{statement}
-use Rattle.book.proofs.lines.line_test.Tie as tie
+use Rattle.book.proofs.tests.line_test.Statement.{statement}
+use Rattle.book.proofs.tests.line_test.Tie as tie
 use Rattle.book.proofs.Rules.{refusing}
 use Rattle.scope.specs.Book.{line-test}
 use Rattle.book.specs.Told.{name-told, verdict-told}
