@@ -1,129 +1,152 @@
--- What is read of a taken book fits: its register is a register, its target a line or the end, its callee below its routine.
--- For crates above: what `lines::line_at` and `flat::instruction_at` answer, case by case, and what they ask, read off a taken book.
--- Assumes nothing.
+-- What is read of a taken book fits, and stands where it was read: what crates above need of `lines::line_at` and `flat::instruction_at`.
+-- A taken line fits, field by field, and it is the line of the list that the bytes say; both by the answer's cases. Assumes nothing.
 use Prim.Native.Nat.{ℕ, suc, _<_, _≤_}
 use native.Mathlib.Omega.{arith}
 use mathlib.Core.Path.{_≡_, sym, _∙_, ap}
-use mathlib.Core.List.{List, _∷_}
-use lib.ListN.{drop}
-use Rattle.scope.specs.Book as book
-use Rattle.scope.specs.Book.{last-register, routines, lines, count, line-of, fields-at, fields-in}
-use Rattle.scope.specs.Ram as ram
+use mathlib.Core.List.{List, [], _∷_}
+use lib.ListN.{drop, drop-of-length-le}
+use Rattle.scope.specs.Book.{routines, lines, count, line-of, fields-at, fields-in, routine, routine-of, book-of}
 use Rattle.scope.specs.Ram.{Target-within}
 use Rattle.scope.specs.Steps.{register-count}
 use Rattle.scope.specs.Running.{instruction-of, program-of}
 use Rattle.scope.specs.Transitions.{Register-within}
-use Rattle.scope.proofs.TakenBook.{Line-fits, INC-fits, DEC-fits, GO-TO-fits, CALL-fits, REPEAT-fits, taken-book, taken-line-fits}
-use Rattle.scope.proofs.TakenProgram.{program-stands, instruction-within}
+use Rattle.scope.proofs.TakenBook.{Line-fits, INC-fits, DEC-fits, GO-TO-fits, CALL-fits, REPEAT-fits, taken-book, taken-line-fits, routine-in-the-book, length-routine-of, stands-in-its-routine}
+use Rattle.scope.proofs.TakenProgram.{length-program-of, program-stands, instruction-within}
 use Rattle.book.specs.declared.header.Counts.{Counts}
 use Rattle.book.specs.declared.lines.Reg.{Reg}
 use Rattle.book.specs.declared.lines.RoutineLine.{RoutineLine}
 use Rattle.book.specs.declared.lines.Line.{Line}
-use Rattle.book.specs.declared.lines.Line.the-variants as line
+use Rattle.book.specs.declared.lines.Line.the-variants.{Inc, Dec, GoTo, Call, Repeat}
 use Rattle.book.specs.declared.flat.FlatLine.{FlatLine}
 use Rattle.book.specs.declared.flat.Instruction.{Instruction}
-use Rattle.book.specs.declared.flat.Instruction.the-variants as instruction
+use Rattle.book.specs.declared.flat.Instruction.the-variants as flat
 use Rattle.book.specs.Told.{line-told, instruction-told}
 use Rattle.book.specs.Asked.{Line-within, Taken-with}
 
 -- ---- a line of a routine
 
-module _ {r n : ℕ} where
-  INC-fits-so : {g : ℕ} → Line-fits r n (book.INC g) → g ≤ last-register
-  INC-fits-so (INC-fits h) = h
+-- A line of routine r, which has n lines: its register is a register, its target a line or the end, its callee below r.
+unfoldable pub Fits : (r n : ℕ) → Line → Type 0
+Fits r n (Inc g) = g .0 < register-count
+Fits r n (Dec g u) = (g .0 < register-count) × (u .0 ≤ n)
+Fits r n (GoTo u) = u .0 ≤ n
+Fits r n (Call k) = k < r
+Fits r n (Repeat g k) = (g .0 < register-count) × (k < r)
 
-  DEC-fits-so : {g u : ℕ} → Line-fits r n (book.DEC g u) → (g ≤ last-register) × (u ≤ n)
-  DEC-fits-so (DEC-fits h s) = (h, s)
-
-  GO-TO-fits-so : {u : ℕ} → Line-fits r n (book.GO-TO u) → u ≤ n
-  GO-TO-fits-so (GO-TO-fits s) = s
-
-  CALL-fits-so : {k : ℕ} → Line-fits r n (book.CALL k) → k < r
-  CALL-fits-so (CALL-fits s) = s
-
-  REPEAT-fits-so : {g k : ℕ} → Line-fits r n (book.REPEAT g k) → (g ≤ last-register) × (k < r)
-  REPEAT-fits-so (REPEAT-fits h s) = (h, s)
+told-fits : {r n : ℕ} (l : Line) → Line-fits r n (line-told l) → Fits r n l
+unfolding Fits line-told
+told-fits (Inc g) (INC-fits h) = omega arith
+told-fits (Dec g u) (DEC-fits h s) = (omega arith, s)
+told-fits (GoTo u) (GO-TO-fits s) = s
+told-fits (Call k) (CALL-fits s) = s
+told-fits (Repeat g k) (REPEAT-fits h s) = (omega arith, s)
 
 module _ (b : List ℕ) (c : Counts) (l : Line) (r j : ℕ) (t : Taken-with b c) (h : r < c .routines) (s : j < count b r)
     (e : line-told l ≡ line-of (fields-in b r j)) where
-  pub line-fits : Line-fits r (count b r) (line-told l)
-  line-fits =
-      let here : r < routines b = rw (sym (t .tabled .sized .counts .routines-are)) h in
-      rw e (taken-line-fits (fields-in b r j) r (count b r) (taken-book b (t .taken) .lines-right r j here s))
+  here : r < routines b
+  here = rw (sym (t .tabled .sized .counts .routines-are)) h
 
-  fits-as : {m : book.Line} → line-told l ≡ m → Line-fits r (count b r) m
-  fits-as k = rw k at line-fits
+  -- It stands at j in its routine of the book that the bytes say.
+  pub line-stands : drop j (routine (book-of b) r) ≡ line-told l ∷ drop (suc j) (routine (book-of b) r)
+  line-stands =
+      rw (routine-in-the-book b r here)
+      (stands-in-its-routine b r j s ∙ ap (λ m. m ∷ drop (suc j) (routine-of b r)) (sym e))
 
-  pub INC-register : {g : Reg} → l ≡ line.Inc g → g .0 ≤ last-register
-  unfolding line-told
-  INC-register k = INC-fits-so (fits-as (ap line-told k))
+  pub line-fits : {m : Line} → l ≡ m → Fits r (count b r) m
+  line-fits k =
+      let taken = taken-line-fits (fields-in b r j) r (count b r) (taken-book b (t .taken) .lines-right r j here s) in
+      rw k at (told-fits {r = r} {n = count b r} l (rw e taken))
 
-  pub DEC-register : {g : Reg} {u : RoutineLine} → l ≡ line.Dec g u → g .0 ≤ last-register
-  unfolding line-told
-  DEC-register k = DEC-fits-so (fits-as (ap line-told k)) .0
+  pub INC-register : {g : Reg} → l ≡ Inc g → g .0 < register-count
+  unfolding Fits
+  INC-register k = line-fits k
 
-  pub DEC-target : {g : Reg} {u : RoutineLine} → l ≡ line.Dec g u → u .0 ≤ count b r
-  unfolding line-told
-  DEC-target k = DEC-fits-so (fits-as (ap line-told k)) .1
+  pub DEC-register : {g : Reg} {u : RoutineLine} → l ≡ Dec g u → g .0 < register-count
+  unfolding Fits
+  DEC-register k = line-fits k .0
 
-  pub GO-TO-target : {u : RoutineLine} → l ≡ line.GoTo u → u .0 ≤ count b r
-  unfolding line-told
-  GO-TO-target k = GO-TO-fits-so (fits-as (ap line-told k))
+  pub DEC-target : {g : Reg} {u : RoutineLine} → l ≡ Dec g u → u .0 ≤ count b r
+  unfolding Fits
+  DEC-target k = line-fits k .1
 
-  pub CALL-below : {k : ℕ} → l ≡ line.Call k → k < r
-  unfolding line-told
-  CALL-below k = CALL-fits-so (fits-as (ap line-told k))
+  pub GO-TO-target : {u : RoutineLine} → l ≡ GoTo u → u .0 ≤ count b r
+  unfolding Fits
+  GO-TO-target k = line-fits k
 
-  pub REPEAT-register : {g : Reg} {k : ℕ} → l ≡ line.Repeat g k → g .0 ≤ last-register
-  unfolding line-told
-  REPEAT-register k = REPEAT-fits-so (fits-as (ap line-told k)) .0
+  pub CALL-below : {q : ℕ} → l ≡ Call q → q < r
+  unfolding Fits
+  CALL-below k = line-fits k
 
-  pub REPEAT-below : {g : Reg} {k : ℕ} → l ≡ line.Repeat g k → k < r
-  unfolding line-told
-  REPEAT-below k = REPEAT-fits-so (fits-as (ap line-told k)) .1
+  pub REPEAT-register : {g : Reg} {q : ℕ} → l ≡ Repeat g q → g .0 < register-count
+  unfolding Fits
+  REPEAT-register k = line-fits k .0
+
+  pub REPEAT-below : {g : Reg} {q : ℕ} → l ≡ Repeat g q → q < r
+  unfolding Fits
+  REPEAT-below k = line-fits k .1
+
+-- Behind its last line a routine has none.
+pub routine-ends : (b : List ℕ) (c : Counts) (r : ℕ) → Taken-with b c → r < c .routines → drop (count b r) (routine (book-of b) r) ≡ []
+routine-ends b c r t h =
+    let here : r < routines b = rw (sym (t .tabled .sized .counts .routines-are)) h in
+    rw (routine-in-the-book b r here) (drop-of-length-le _ {i = count b r} (omega (arith, length-routine-of b r)))
 
 -- ---- a line of a flat book
 
-module _ (b : List ℕ) (c : Counts) (i : ℕ) (t : Taken-with b c) (one : c .routines ≡ 1) (h : i < c .lines) where
-  here : i < lines b
-  here = rw (sym (t .tabled .sized .counts .lines-are)) h
+-- A line of a flat book of n lines: its register is a register, its target a line or the end.
+unfoldable pub Fits-flat : (n : ℕ) → Instruction → Type 0
+Fits-flat n (flat.Inc g) = g .0 < register-count
+Fits-flat n (flat.Dec g u) = (g .0 < register-count) × (u .0 ≤ n)
+Fits-flat n (flat.GoTo u) = u .0 ≤ n
 
-  flat : routines b ≡ 1
-  flat = sym (t .tabled .sized .counts .routines-are) ∙ one
+told-fits-flat : (n : ℕ) (x : Instruction) → Register-within register-count (instruction-told x) → Target-within n (instruction-told x)
+    → Fits-flat n x
+unfolding Fits-flat instruction-told Register-within Target-within
+told-fits-flat n (flat.Inc g) h s = h
+told-fits-flat n (flat.Dec g u) h s = (h, s)
+told-fits-flat n (flat.GoTo u) h s = s
 
-  pub flat-line-within : Line-within b 1 i
-  flat-line-within =
-      record {
-        routines-are = sym flat;
-        in-the-bytes = omega (arith, t .tabled .sized .size);
-      }
+module _ (b : List ℕ) (c : Counts) (t : Taken-with b c) where
+  -- Behind its last line it has none.
+  pub program-ends : drop (c .lines) (program-of b) ≡ []
+  program-ends = drop-of-length-le _ {i = c .lines} (omega (arith, length-program-of b, t .tabled .sized .counts .lines-are))
 
-  module _ (x : Instruction) (e : instruction-told x ≡ instruction-of (fields-at b i)) where
-    pub instruction-fits : Register-within register-count (instruction-told x) × Target-within (c .lines) (instruction-told x)
-    instruction-fits = rw (e, t .tabled .sized .counts .lines-are) (instruction-within b (t .taken) flat i here)
+  module _ (i : ℕ) (one : c .routines ≤ 1) (h : i < c .lines) where
+    in-the-book : i < lines b
+    in-the-book = rw (sym (t .tabled .sized .counts .lines-are)) h
 
-    registers-within : {y : ram.Instruction} → instruction-told x ≡ y → Register-within register-count y
-    registers-within k = rw k at (instruction-fits .0)
+    one-routine : routines b ≡ 1
+    one-routine = omega (arith, t .tabled .sized .counts .routines-are, t .tabled .sized .some-routine)
 
-    targets-within : {y : ram.Instruction} → instruction-told x ≡ y → Target-within (c .lines) y
-    targets-within k = rw k at (instruction-fits .1)
+    pub flat-line-within : Line-within b 1 i
+    flat-line-within =
+        record {
+          routines-are = sym one-routine;
+          in-the-bytes = omega (arith, t .tabled .sized .size, t .tabled .sized .some-routine);
+        }
 
-    pub flat-INC-register : {g : Reg} → x ≡ instruction.Inc g → g .0 < register-count
-    unfolding instruction-told Register-within
-    flat-INC-register k = registers-within (ap instruction-told k)
+    module _ (x : Instruction) (e : instruction-told x ≡ instruction-of (fields-at b i)) where
+      -- It stands at i in the program that the book says.
+      pub flat-line-stands : drop i (program-of b) ≡ instruction-told x ∷ drop (suc i) (program-of b)
+      flat-line-stands = program-stands b i in-the-book ∙ ap (λ y. y ∷ drop (suc i) (program-of b)) (sym e)
 
-    pub flat-DEC-register : {g : Reg} {u : FlatLine} → x ≡ instruction.Dec g u → g .0 < register-count
-    unfolding instruction-told Register-within
-    flat-DEC-register k = registers-within (ap instruction-told k)
+      pub flat-line-fits : {y : Instruction} → x ≡ y → Fits-flat (c .lines) y
+      flat-line-fits k =
+          let w = instruction-within b (t .taken) one-routine i in-the-book in
+          rw (t .tabled .sized .counts .lines-are) (rw k at (told-fits-flat (lines b) x (rw e (w .0)) (rw e (w .1))))
 
-    pub flat-DEC-target : {g : Reg} {u : FlatLine} → x ≡ instruction.Dec g u → u .0 ≤ c .lines
-    unfolding instruction-told Target-within
-    flat-DEC-target k = targets-within (ap instruction-told k)
+      pub flat-INC-register : {g : Reg} → x ≡ flat.Inc g → g .0 < register-count
+      unfolding Fits-flat
+      flat-INC-register k = flat-line-fits k
 
-    pub flat-GO-TO-target : {u : FlatLine} → x ≡ instruction.GoTo u → u .0 ≤ c .lines
-    unfolding instruction-told Target-within
-    flat-GO-TO-target k = targets-within (ap instruction-told k)
+      pub flat-DEC-register : {g : Reg} {u : FlatLine} → x ≡ flat.Dec g u → g .0 < register-count
+      unfolding Fits-flat
+      flat-DEC-register k = flat-line-fits k .0
 
-    -- It stands at i in the program that the book says.
-    pub flat-line-stands : drop i (program-of b) ≡ instruction-told x ∷ drop (suc i) (program-of b)
-    flat-line-stands = program-stands b i here ∙ ap (λ y. y ∷ drop (suc i) (program-of b)) (sym e)
+      pub flat-DEC-target : {g : Reg} {u : FlatLine} → x ≡ flat.Dec g u → u .0 ≤ c .lines
+      unfolding Fits-flat
+      flat-DEC-target k = flat-line-fits k .1
+
+      pub flat-GO-TO-target : {u : FlatLine} → x ≡ flat.GoTo u → u .0 ≤ c .lines
+      unfolding Fits-flat
+      flat-GO-TO-target k = flat-line-fits k

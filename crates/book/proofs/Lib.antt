@@ -1,3 +1,4 @@
+-- The laws that the proofs of the functions cite. A function's own proof stands under its module and name.
 pub mod Rules
 pub mod Limits
 pub mod Scanned

@@ -14,8 +14,8 @@ use Rattle.scope.proofs.Verdicts.{is-not-tells, refuses, goes-on, then-goes-on,
 use Rattle.scope.proofs.TakenBook.{table-ends-within}
 use Rattle.book.specs.declared.header.Counts.{Counts}
 use Rattle.book.specs.declared.lines.Fields.{Fields}
-use Rattle.book.specs.declared.refusals.Refusal.{Refusal as Refused}
-use Rattle.book.specs.declared.refusals.Verdict.{Verdict as Told}
+use Rattle.book.specs.declared.refusals.Refusal as refusals
+use Rattle.book.specs.declared.refusals.Verdict as verdicts
 use Rattle.book.specs.declared.refusals.Verdict.the-variants.{Pass, Refuse}
 use Rattle.book.specs.Told.{fields-told, verdict-told}
 use Rattle.book.specs.Asked.{Tabled, Line-within}
@@ -64,21 +64,21 @@ due-next {b} {R} {due} {r} f n d h e s k =
       due-is = rw (add-one r, e, k);
     }
 
-pub entry-refused : {b : List ℕ} {R due r : ℕ} {v : Verdict} (f : ℕ) → R ≡ routines b → Due b R due r → r < R → f ≡ first-line b r
-    → f ≢ due → v ≡ refuse (refusal ROUTINE r) → v ≡ table-verdict b
+pub entry-refused : {b : List ℕ} {R due r : ℕ} {x : Refusal} (f : ℕ) → R ≡ routines b → Due b R due r → r < R → f ≡ first-line b r
+    → f ≢ due → x ≡ refusal ROUTINE r → refuse x ≡ table-verdict b
 unfolding table-verdict entry-verdict
 entry-refused {b} {R} {due} {r} f k d h e s w =
     let wrong : first-line b r ≢ first-line-due b r = λ z. s (e ∙ z ∙ sym (d .due-is)) in
     let hit = stopped (d .passed) h (refuses _ _ (is-not-tells (first-line b r) (first-line-due b r)) wrong) in
-    w ∙ sym (then-refuses _ (ap (first (entry-verdict b)) (sym k) ∙ hit))
+    ap refuse w ∙ sym (then-refuses _ (ap (first (entry-verdict b)) (sym k) ∙ hit))
 
-pub end-refused : {b : List ℕ} {R due r L : ℕ} {v : Verdict} → R ≡ routines b → L ≡ lines b → Due b R due r → R ≤ r → due ≢ L
-    → v ≡ refuse (refusal ROUTINE (R - 1)) → v ≡ table-verdict b
+pub end-refused : {b : List ℕ} {R due r L : ℕ} {x : Refusal} → R ≡ routines b → L ≡ lines b → Due b R due r → R ≤ r → due ≢ L
+    → x ≡ refusal ROUTINE (R - 1) → refuse x ≡ table-verdict b
 unfolding table-verdict
 end-refused {b} {R} {due} {r} k l d h s w =
     let same : r ≡ R = omega (arith, d .passed .within) in
     let wrong : first-line-due b (routines b) ≢ lines b = λ z. s (d .due-is ∙ ap (first-line-due b) (same ∙ k) ∙ z ∙ sym l) in
-    w ∙ ap (λ n. refuse (refusal ROUTINE (n - 1))) k
+    ap refuse w ∙ ap (λ n. refuse (refusal ROUTINE (n - 1))) k
     ∙ sym (then-goes-on _ (ap (first (entry-verdict b)) (sym k) ∙ all-passed (d .passed) h)
     ∙ refuses _ _ (is-not-tells (first-line-due b (routines b)) (lines b)) wrong)
 
@@ -93,7 +93,7 @@ table-right {b} {R} {due} {r} k l d h s =
 
 -- ---- the lines
 
--- Line j of routine r, that starts at f and has n lines, is a line of the book: its number fits, and it stands in the bytes.
+-- Line j of routine r, which starts at f and has n lines, is a line of the book: its number fits, and it stands in the bytes.
 module _ {b : List ℕ} {c : Counts} (r f n j : ℕ) (t : Tabled b c) (h : r < c .routines) (starts : f ≡ first-line b r)
     (counted : n ≡ count b r) (l : j < n) where
   in-the-book : f + j < c .lines
@@ -111,8 +111,8 @@ module _ {b : List ℕ} {c : Counts} (r f n j : ℕ) (t : Tabled b c) (h : r < c
         in-the-bytes = omega (arith, in-the-book, t .sized .size);
       }
 
--- Line j of routine r, that starts at `f` and has n lines: x was read there, and v said of it.
-module _ (b : List ℕ) (x : Fields) (r f n j : ℕ) (v : Told) (starts : f ≡ first-line b r) (counted : n ≡ count b r)
+-- Line j of routine r, which starts at f and has n lines: x was read there, and v said of it.
+module _ (b : List ℕ) (x : Fields) (r f n j : ℕ) (v : verdicts.Verdict) (starts : f ≡ first-line b r) (counted : n ≡ count b r)
     (read : fields-told x ≡ fields-at b (f + j)) (said : verdict-told v ≡ line-test (x .kind) (x .register) (x .operand) r n (f + j)) where
   line-tested : verdict-told v ≡ line-verdict b r j
   unfolding line-verdict line-number fields-in fields-told
@@ -127,7 +127,7 @@ module _ (b : List ℕ) (x : Fields) (r f n j : ℕ) (v : Told) (starts : f ≡ 
   unfolding verdict-told
   line-passed e p h = one-more p h (sym line-tested ∙ ap verdict-told e)
 
-  pub line-refused : {y : Refused} (R : ℕ) → v ≡ Refuse y → Passed-to (line-verdict b r) n j → j < n
+  pub line-refused : {y : refusals.Refusal} (R : ℕ) → v ≡ Refuse y → Passed-to (line-verdict b r) n j → j < n
       → Passed-to (routine-verdict b) R r → r < R → R ≡ routines b → verdict-told (Refuse y) ≡ lines-verdict b
   unfolding verdict-told lines-verdict routine-verdict
   line-refused R e p h q l k =

@@ -10,8 +10,6 @@ use Rattle.scope.proofs.TakenBook.{line-read-back}
 use Rattle.book.specs.declared.refusals.Name.{Name}
 use Rattle.book.specs.declared.refusals.Name.the-variants as name
 use Rattle.book.specs.declared.refusals.Refusal.{Refusal}
-use Rattle.book.specs.declared.refusals.Verdict.{Verdict}
-use Rattle.book.specs.declared.refusals.Verdict.the-variants.{Pass, Refuse}
 use Rattle.book.specs.declared.header.Counts.{Counts}
 use Rattle.book.specs.declared.lines.Line.{Line}
 use Rattle.book.specs.declared.lines.Line.the-variants as line
@@ -21,7 +19,7 @@ use Rattle.book.specs.declared.Checked.{Checked}
 use Rattle.book.specs.declared.Checked.the-variants as checked
 use Rattle.book.specs.declared.Read.{Read}
 use Rattle.book.specs.declared.Read.the-variants as read
-use Rattle.book.specs.Told.{name-told, refusal-told, verdict-told, counts-told, check-told, line-told, read-told, instruction-told}
+use Rattle.book.specs.Told.{name-told, refusal-told, counts-told, check-told, line-told, read-told, instruction-told}
 
 -- what is got back tells apart
 apart : {A B : Type 0} (told : A → B) (back : B → A) → ((x : A) → back (told x) ≡ x) → (x y : A) → told x ≡ told y → x ≡ y
@@ -81,18 +79,6 @@ refusal-again x = ap (λ (n : Name). record { name = n; place = x .place }) (nam
 
 pub refusals-apart : (x y : Refusal) → refusal-told x ≡ refusal-told y → x ≡ y
 refusals-apart = apart refusal-told refusal-back refusal-again
-
-abbrev verdict-back : paper.Verdict → Verdict
-verdict-back paper.pass = Pass
-verdict-back (paper.refuse x) = Refuse (refusal-back x)
-
-verdict-again : (v : Verdict) → verdict-back (verdict-told v) ≡ v
-unfolding verdict-told
-verdict-again Pass = refl
-verdict-again (Refuse x) = ap Refuse (refusal-again x)
-
-pub verdicts-apart : (v w : Verdict) → verdict-told v ≡ verdict-told w → v ≡ w
-verdicts-apart = apart verdict-told verdict-back verdict-again
 
 -- ---- checking a book
 

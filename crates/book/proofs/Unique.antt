@@ -1,11 +1,9 @@
 -- Any two answers that satisfy a public function's promise are equal, and so are the last contents of what it was lent to write in.
--- Each is said of what a caller learns from the contract (`Learnt`); both answers tell the same, and what tells the same is the same.
--- Assumes nothing.
+-- Said of what a caller learns from the contract (`Learnt`): both tell the same, and what tells the same is the same. Assumes nothing.
 use mathlib.Core.Path.{_≡_, refl, sym, _∙_}
 use Prim.Native.Nat.{ℕ}
 use denote.Ref.{now}
 use Rattle.book.specs.declared.refusals.Refusal.{Refusal}
-use Rattle.book.specs.declared.refusals.Verdict.{Verdict}
 use Rattle.book.specs.declared.header.Counts.{Counts}
 use Rattle.book.specs.declared.lines.Line.{Line}
 use Rattle.book.specs.declared.flat.Instruction.{Instruction}
@@ -13,8 +11,11 @@ use Rattle.book.specs.declared.Checked.{Checked}
 use Rattle.book.specs.declared.Read.{Read}
 use Rattle.book.proofs.check.Reads as check
 use Rattle.book.proofs.read_line.Reads as read-line
+use Rattle.book.proofs.refusals.Refusal.at.Reads as refusal-at
 use Rattle.book.proofs.refusals.Refusal.of.Reads as refusal-of
-use Rattle.book.proofs.refusals.refuse.Reads as refuse
+use Rattle.book.proofs.numbers.two_byte.Reads as two-byte
+use Rattle.book.proofs.numbers.low.Reads as low
+use Rattle.book.proofs.numbers.high.Reads as high
 use Rattle.book.proofs.header.counts_of.Reads as counts-of
 use Rattle.book.proofs.table.first_line.Reads as first-line
 use Rattle.book.proofs.table.count.Reads as count
@@ -22,7 +23,7 @@ use Rattle.book.proofs.lines.line_at.Reads as line-at
 use Rattle.book.proofs.flat.put_header.Reads as put-header
 use Rattle.book.proofs.flat.put_line.Reads as put-line
 use Rattle.book.proofs.flat.instruction_at.Reads as instruction-at
-use Rattle.book.proofs.Told.{refusals-apart, verdicts-apart, checks-apart, lines-apart, reads-apart, instructions-apart}
+use Rattle.book.proofs.Told.{refusals-apart, checks-apart, lines-apart, reads-apart, instructions-apart}
 
 pub check-once : {r r′ : Checked} (κs : _) (a : _) (s s′ : _) → check.Learnt κs a r s → check.Learnt κs a r′ s′ → r ≡ r′
 check-once κs a s s′ p q = checks-apart _ _ (p ∙ sym q)
@@ -33,8 +34,17 @@ read-line-once κs a s s′ p q = reads-apart _ _ (p ∙ sym q)
 pub refusal-of-once : {r r′ : Refusal} (κs : _) (a : _) (s s′ : _) → refusal-of.Learnt κs a r s → refusal-of.Learnt κs a r′ s′ → r ≡ r′
 refusal-of-once κs a s s′ p q = refusals-apart _ _ (p ∙ sym q)
 
-pub refuse-once : {r r′ : Verdict} (κs : _) (a : _) (s s′ : _) → refuse.Learnt κs a r s → refuse.Learnt κs a r′ s′ → r ≡ r′
-refuse-once κs a s s′ p q = verdicts-apart _ _ (p ∙ sym q)
+pub refusal-at-once : {r r′ : Refusal} (κs : _) (a : _) (s s′ : _) → refusal-at.Learnt κs a r s → refusal-at.Learnt κs a r′ s′ → r ≡ r′
+refusal-at-once κs a s s′ p q = refusals-apart _ _ (p ∙ sym q)
+
+pub two-byte-once : {r r′ : ℕ} (κs : _) (a : _) (s s′ : _) → two-byte.Learnt κs a r s → two-byte.Learnt κs a r′ s′ → r ≡ r′
+two-byte-once κs a s s′ p q = p ∙ sym q
+
+pub low-once : {r r′ : ℕ} (κs : _) (a : _) (s s′ : _) → low.Learnt κs a r s → low.Learnt κs a r′ s′ → r ≡ r′
+low-once κs a s s′ p q = p ∙ sym q
+
+pub high-once : {r r′ : ℕ} (κs : _) (a : _) (s s′ : _) → high.Learnt κs a r s → high.Learnt κs a r′ s′ → r ≡ r′
+high-once κs a s s′ p q = p ∙ sym q
 
 pub counts-of-once : {r r′ : Counts} (κs : _) (a : _) (s s′ : _) → counts-of.Learnt κs a r s → counts-of.Learnt κs a r′ s′ → r ≡ r′
 counts-of-once κs a s s′ p q =

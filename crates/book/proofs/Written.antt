@@ -1,17 +1,17 @@
 -- A flat book written a piece at a time: each piece stands behind the last, and what is not written yet is as it was.
 -- Writing at the end of what was written is writing both at once (`written-on`). Assumes nothing.
-use Prim.Native.Nat.{ℕ, suc, _+_, _*_, _<_, _≤_}
+use Prim.Native.Nat.{ℕ, _+_, _*_, _<_, _≤_}
 use native.Mathlib.Omega.{arith}
 use native.Mathlib.Numerals.{add-one, add-two, add-three}
 use mathlib.Core.Path.{_≡_, refl, sym, _∙_, ap}
 use mathlib.Core.List.{List, [], _∷_, _++_, append-assoc, append-nil}
-use lib.ListN.{length, take, drop, getD, set, length-append, length-drop}
-use lib.Seq.{length-take-le, take-length, take-suc, take-at, drop-append-add, drop-cons, drop-drop, sets-eq}
+use lib.ListN.{length, take, drop, getD, set, length-append, length-drop, take-append-drop}
+use lib.Seq.{length-take-le, take-all, take-suc, take-at, drop-append-add, drop-cons, drop-drop, sets-eq}
 use Rattle.scope.specs.Book.{fields-of, two-bytes, two-bytes-each, the-format, header-bytes, line-table-due, length-due}
 use Rattle.scope.specs.Ram.{Instruction, Program}
 use Rattle.scope.specs.Flattening.{bytes-of-fields, as-line, bytes-of-program, flat-header, flat-book, flat-book-bytes, at-the-front-of}
 use Rattle.scope.proofs.WrittenBook.{length-of-bytes}
-use Rattle.book.specs.Written.{with-bytes}
+use Rattle.book.specs.Written.{with-bytes, with-lines}
 
 -- four stores, one behind the other
 pub four-stored : (out : List ℕ) (at a b c d : ℕ) → at + 4 ≤ length out
@@ -20,7 +20,7 @@ unfolding with-bytes
 four-stored out at a b c d h = rw (add-one at, add-two at, add-three at) (sets-eq (a ∷ b ∷ c ∷ d ∷ []) out at h)
 
 -- Writing at the end of what was written is writing both at once.
-pub written-on : (out xs ys : List ℕ) (at m : ℕ) → m ≡ at + length xs → m ≤ length out
+written-on : (out xs ys : List ℕ) (at m : ℕ) → m ≡ at + length xs → m ≤ length out
     → with-bytes (with-bytes out at xs) m ys ≡ with-bytes out at (xs ++ ys)
 unfolding with-bytes
 written-on out xs ys at m e h =
@@ -33,7 +33,7 @@ written-on out xs ys at m e h =
     let end : at + length xs + length ys ≡ at + length (xs ++ ys) = omega (arith, length-append xs ys) in
     rw (kept, behind, drop-drop, end) (simp append-assoc)
 
--- the front of a flat book, two numbers at a time
+-- the header of a flat book, two numbers at a time
 pub header-written : (o₀ o₁ o₂ o₃ o₄ : List ℕ) (n : ℕ) → 16 ≤ length o₀
     → o₁ ≡ with-bytes o₀ 0 (two-bytes-each (the-format ∷ 1 ∷ []))
     → o₂ ≡ with-bytes o₁ 4 (two-bytes-each (n ∷ header-bytes ∷ []))
@@ -44,15 +44,11 @@ unfolding flat-header two-bytes-each two-bytes length-due line-table-due
 header-written o₀ o₁ o₂ o₃ o₄ n h p q r s =
     rw (s, r, q, p, written-on o₀ _ _ 0 4 refl (omega arith), written-on o₀ _ _ 0 8 refl (omega arith), written-on o₀ _ _ 0 12 refl (omega arith))
 
--- ---- a whole flat book
+-- ---- its lines, one after another
 
--- Its front, and the first p of its n lines.
-unfoldable pub so-far : (n p : ℕ) → Program → List ℕ
-so-far n p xs = flat-header n ++ bytes-of-program (take p xs)
-
-pub front-written : (out : List ℕ) (n : ℕ) (xs : Program) → with-bytes out 0 (flat-header n) ≡ with-bytes out 0 (so-far n 0 xs)
-unfolding so-far bytes-of-program
-front-written out n xs = rw (append-nil (flat-header n))
+pub no-line-written : (out : List ℕ) (xs : Program) → out ≡ with-lines out 0 xs
+unfolding with-lines with-bytes bytes-of-program flat-book-bytes
+no-line-written out xs = sym (rw (append-nil (take (flat-book-bytes 0) out)) (take-append-drop (flat-book-bytes 0) out))
 
 -- the bytes of lines, one behind the other
 bytes-of-both : (xs ys : Program) → bytes-of-program (xs ++ ys) ≡ bytes-of-program xs ++ bytes-of-program ys
@@ -60,38 +56,38 @@ unfolding bytes-of-program
 bytes-of-both [] ys = refl
 bytes-of-both (x ∷ xs) ys = rw (bytes-of-both xs ys) (sym (append-assoc (bytes-of-fields (fields-of (as-line x))) _ _))
 
-one-more-taken : (p : ℕ) (xs : Program) {x : Instruction} {rest : Program} → drop p xs ≡ x ∷ rest → take (suc p) xs ≡ take p xs ++ (x ∷ [])
-one-more-taken p xs {x} e = take-suc xs p x below ∙ ap (λ y. take p xs ++ (y ∷ [])) same
-  where
-    below : p < length xs
-    below = omega (arith, length-drop p xs, ap length e)
+module _ (p : ℕ) (xs : Program) {x : Instruction} {rest : Program} (stands : drop p xs ≡ x ∷ rest) where
+  below : p < length xs
+  below = omega (arith, length-drop p xs, ap length stands)
 
-    same : getD xs p x ≡ x
-    same =
-        let s = drop-cons xs p x below in
-        cc
+  same : getD xs p x ≡ x
+  same =
+      let s = drop-cons xs p x below in
+      cc
 
-length-so-far : (n p : ℕ) (xs : Program) → p ≤ length xs → length (so-far n p xs) ≡ flat-book-bytes p
-unfolding so-far flat-header two-bytes-each two-bytes flat-book-bytes
-length-so-far n p xs h = omega (arith, length-of-bytes (take p xs), length-take-le p xs h)
+  one-more-line : bytes-of-program (take (p + 1) xs) ≡ bytes-of-program (take p xs) ++ bytes-of-fields (fields-of (as-line x))
+  unfolding bytes-of-program
+  one-more-line =
+      ap (λ k. bytes-of-program (take k xs)) (add-one p)
+      ∙ ap bytes-of-program (take-suc xs p x below ∙ ap (λ y. take p xs ++ (y ∷ [])) same)
+      ∙ bytes-of-both (take p xs) (x ∷ [])
+      ∙ ap (λ bs. bytes-of-program (take p xs) ++ bs) (append-nil _)
 
--- Line p behind the first p is the first p + 1.
-pub line-written : (out : List ℕ) (n p : ℕ) (xs : Program) {x : Instruction} {rest : Program} → drop p xs ≡ x ∷ rest
-    → flat-book-bytes p ≤ length out
-    → with-bytes (with-bytes out 0 (so-far n p xs)) (flat-book-bytes p) (bytes-of-fields (fields-of (as-line x)))
-    ≡ with-bytes out 0 (so-far n (p + 1) xs)
-unfolding so-far bytes-of-program
-line-written out n p xs {x} e h =
-    let below : p ≤ length xs = omega (arith, length-drop p xs, ap length e) in
-    written-on out (so-far n p xs) _ 0 (flat-book-bytes p) (omega (arith, length-so-far n p xs below)) h
-    ∙ ap (with-bytes out 0) (append-assoc (flat-header n) _ _
-    ∙ ap (λ bs. flat-header n ++ bs) (sym (ap bytes-of-program (ap (λ k. take k xs) (add-one p) ∙ one-more-taken p xs e)
-    ∙ bytes-of-both (take p xs) (x ∷ []) ∙ ap (λ bs. bytes-of-program (take p xs) ++ bs) (append-nil _))))
+  -- Line p behind the first p: so p + 1 are written.
+  pub line-written : (o out out′ : List ℕ) → out ≡ with-lines o p xs → flat-book-bytes p ≤ length o
+      → out′ ≡ with-bytes out (flat-book-bytes p) (bytes-of-fields (fields-of (as-line x))) → out′ ≡ with-lines o (p + 1) xs
+  unfolding with-lines flat-book-bytes
+  line-written o out out′ so-far room put =
+      let long = length-of-bytes (take p xs) in
+      let size = length-take-le p xs (omega (arith, below)) in
+      put ∙ rw so-far (written-on o _ _ 16 (16 + 4 * p) (omega (arith, long, size)) room ∙ ap (with-bytes o 16) (sym one-more-line))
 
--- The front and all lines are the flat book, at the front of the output.
-pub book-written : (out : List ℕ) (n : ℕ) (xs : Program) → n ≡ length xs
-    → with-bytes out 0 (so-far n n xs) ≡ at-the-front-of out (flat-book xs)
-unfolding so-far with-bytes at-the-front-of flat-book
-book-written out n xs e =
+-- The header and then all lines: so the flat book stands at the front of the output.
+pub book-written : (o out out′ : List ℕ) (n p : ℕ) (xs : Program) → n ≡ length xs → n ≤ p → flat-book-bytes 0 ≤ length o
+    → out ≡ with-bytes o 0 (flat-header n) → out′ ≡ with-lines out p xs → out′ ≡ at-the-front-of o (flat-book xs)
+unfolding with-lines with-bytes at-the-front-of flat-book flat-header two-bytes-each two-bytes flat-book-bytes
+book-written o out out′ n p xs size all room header rest =
+    let whole : take p xs ≡ xs = take-all p xs (omega arith) in
     let from-0 : 0 + length (flat-book xs) ≡ length (flat-book xs) = omega arith in
-    rw (e, take-length xs) (ap (λ k. flat-book xs ++ drop k out) from-0)
+    rest ∙ rw (header, whole, size) (written-on o (flat-header (length xs)) (bytes-of-program xs) 0 16 refl room
+    ∙ ap (λ k. flat-book xs ++ drop k o) from-0)

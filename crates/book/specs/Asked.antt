@@ -41,6 +41,10 @@ pub record Taken-with (b : List ℕ) (c : Counts) : Type 0 where
   pub taken : Taken b
   pub tabled : Tabled b c
 
+-- the entry of routine r stands in the bytes
+pub record Entry-within (b : List ℕ) (r : ℕ) : Type 0 where
+  pub in-the-bytes : header-bytes + entry-bytes * r + entry-bytes ≤ length b
+
 -- line i of the whole book, of R routines, stands in the bytes
 pub record Line-within (b : List ℕ) (R i : ℕ) : Type 0 where
   pub routines-are : R ≡ routines b

@@ -1,4 +1,4 @@
-// A flat book: a book with one routine, each of its lines INC, DEC or GO TO. It is written a piece at a time, and read line by line.
+// A flat book: a book with one routine, each of its lines INC, DEC or GO TO. It is written header first and then line by line.
 ghost use mathlib.Core.Path.{_≡_};
 ghost use Prim.Native.Nat.{_+_, _≤_};
 ghost use mathlib.Core.List.{[], _∷_};
@@ -22,8 +22,8 @@ use super::lines::fields_at;
 use super::numbers::high;
 use super::numbers::low;
 
-// The front of a flat book: its header, and the entry of its one routine.
-pub const FRONT_BYTES: usize = HEADER_BYTES + ENTRY_BYTES;
+// The header of a flat book, with the entry of its one routine.
+pub const FLAT_HEADER_BYTES: usize = HEADER_BYTES + ENTRY_BYTES;
 
 // A flat line number, kept apart from a routine's.
 pub struct FlatLine(pub u16);
@@ -54,16 +54,16 @@ fn put_two(out: &mut [u8], at: usize, m: u16, n: u16)
     put_four(out, at, low(m), high(m), low(n), high(n));
 }
 
-// The front of a flat book of n lines: its header, and the entry of its routine.
+// Writes the header of a flat book of n lines, with the entry of its routine.
 pub fn put_header(out: &mut [u8], n: u16)
     requires { ⌜ n ≤ most-flat-lines ⌝ }
     requires { ⌜ flat-book-bytes 0 ≤ length (now out) ⌝ }
     ensures { λ _. ⌜ now (out .exit) ≡ with-bytes (now (out .entry)) 0 (flat-header n) ⌝ }
 {
-    let front = FRONT_BYTES as u16;
+    let lines_at = FLAT_HEADER_BYTES as u16;
     put_two(out, 0, THE_FORMAT, 1);
     put_two(out, 4, n, HEADER_BYTES as u16);
-    put_two(out, 8, front, front + LINE_BYTES as u16 * n);
+    put_two(out, 8, lines_at, lines_at + LINE_BYTES as u16 * n);
     put_two(out, 12, 0, n);
 }
 
@@ -90,14 +90,14 @@ fn fields_of(x: Instruction) -> Fields
     }
 }
 
-// Flat line i.
+// Writes flat line i.
 pub fn put_line(out: &mut [u8], i: FlatLine, x: Instruction)
     requires { ⌜ flat-book-bytes (i .0) + line-bytes ≤ length (now out) ⌝ }
     ensures { λ _. ⌜ now (out .exit) ≡ with-bytes (now (out .entry)) (flat-book-bytes (i .0)) (bytes-of-fields (fields-of (as-line (instruction-told x)))) ⌝ }
 {
     let f = fields_of(x);
     let operand = f.operand;
-    let at = FRONT_BYTES + LINE_BYTES * i.0 as usize;
+    let at = FLAT_HEADER_BYTES + LINE_BYTES * i.0 as usize;
     put_four(out, at, f.kind, f.register, low(operand), high(operand));
 }
 

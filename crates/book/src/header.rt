@@ -7,8 +7,8 @@ ghost use Rattle.book.specs.Told.{verdict-told};
 ghost use Rattle.book.specs.Asked.{Header-of, Counts-of};
 use super::numbers::two_byte;
 use super::refusals::Name;
+use super::refusals::Refusal;
 use super::refusals::Verdict;
-use super::refusals::refuse;
 
 pub const HEADER_BYTES: usize = 12;
 
@@ -75,17 +75,17 @@ fn header_test(size: usize, h: Header) -> Verdict
 {
     let format = h.format;
     if format != THE_FORMAT {
-        return refuse(Name::Format, 0);
+        return Verdict::Refuse(Refusal::of(Name::Format));
     }
     if counts_wrong(h.routines, h.lines) {
-        return refuse(Name::Counts, 0);
+        return Verdict::Refuse(Refusal::of(Name::Counts));
     }
     if offsets_wrong(h) {
-        return refuse(Name::Offsets, 0);
+        return Verdict::Refuse(Refusal::of(Name::Offsets));
     }
     let stated = h.stated as usize;
     if size != stated {
-        return refuse(Name::Length, 0);
+        return Verdict::Refuse(Refusal::of(Name::Length));
     }
     Verdict::Pass
 }
@@ -110,7 +110,7 @@ pub(crate) fn header_verdict(b: &[u8]) -> Verdict
 {
     let size = b.len();
     if size < HEADER_BYTES {
-        return refuse(Name::Short, 0);
+        return Verdict::Refuse(Refusal::of(Name::Short));
     }
     header_test(size, read_header(b))
 }
@@ -120,8 +120,9 @@ pub fn counts_of(b: &[u8]) -> Counts
     requires { ⌜ header-bytes ≤ length (now b) ⌝ }
     ensures { λ r. ⌜ Counts-of (now (b .entry)) r ⌝ }
 {
+    let h = read_header(b);
     Counts {
-        routines: two_byte(b, 2),
-        lines: two_byte(b, 4),
+        routines: h.routines,
+        lines: h.lines,
     }
 }

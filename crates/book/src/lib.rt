@@ -1,11 +1,11 @@
 // A book's bytes: checking it, and reading one line of it. The book is the caller's slice, and no copy of it is made.
 pub mod flat; // flat.rt: a flat book's lines, written and read
 pub mod header; // header.rt: the twelve bytes at the front, tests 1 to 5
+mod judging; // judging.rt: the lines' tests, 7 to 10
 pub mod lines; // lines.rt: what stands in a line
-mod numbers; // numbers.rt: two-byte numbers in the bytes
+pub mod numbers; // numbers.rt: two-byte numbers, low byte first
 pub mod refusals; // refusals.rt: the table of refusals
 pub mod table; // table.rt: where each routine starts and how many lines it has, test 6
-mod tests; // tests.rt: the lines' tests, 7 to 10
 
 ghost use mathlib.Core.Path.{_≡_};
 ghost use Rattle.scope.specs.Book.{book-verdict, check-answer, read-answer};
@@ -47,7 +47,7 @@ fn book_verdict(b: &[u8]) -> Verdict
         }
         Verdict::Pass => {}
     }
-    tests::lines_verdict(b, counts)
+    judging::lines_verdict(b, counts)
 }
 
 // Taken, with its counts, or refused.
@@ -68,14 +68,15 @@ fn read_taken(b: &[u8], counts: Counts, routine: usize, line: usize) -> Read
 {
     let routines = counts.routines as usize;
     if routines <= routine {
-        return Read::Refused(Refusal::of(Name::NoRoutine, 0));
+        return Read::Refused(Refusal::of(Name::NoRoutine));
     }
     let r = routine as u16;
     let count = table::count(b, r) as usize;
     if count <= line {
-        return Read::Refused(Refusal::of(Name::Line, 0));
+        return Read::Refused(Refusal::of(Name::Line));
     }
-    Read::Found(lines::line_at(b, counts, r, RoutineLine(line as u16)))
+    let j = line as u16;
+    Read::Found(lines::line_at(b, counts, r, RoutineLine(j)))
 }
 
 // What stands at a line counted inside its routine, or refused. Both numbers come in wide.

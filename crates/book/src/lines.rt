@@ -3,7 +3,7 @@ ghost use mathlib.Core.Path.{_≡_};
 ghost use Prim.Native.Nat.{_<_};
 ghost use Rattle.scope.specs.Book.{line-of, count, fields-at, fields-in};
 ghost use Rattle.book.specs.Told.{fields-told, line-told};
-ghost use Rattle.book.specs.Asked.{Line-within, Taken-with};
+ghost use Rattle.book.specs.Asked.{Line-within, Tabled};
 use super::header::Counts;
 use super::header::ENTRY_BYTES;
 use super::header::HEADER_BYTES;
@@ -49,10 +49,13 @@ pub(crate) fn fields_at(b: &[u8], routines: u16, i: u16) -> Fields
     ensures { λ r. ⌜ fields-told r ≡ fields-at (now (b .entry)) i ⌝ }
 {
     let at = HEADER_BYTES + ENTRY_BYTES * routines as usize + LINE_BYTES * i as usize;
+    let kind = b[at];
+    let register = b[at + 1];
+    let operand = two_byte(b, at + 2);
     Fields {
-        kind: b[at],
-        register: b[at + 1],
-        operand: two_byte(b, at + 2),
+        kind: kind,
+        register: register,
+        operand: operand,
     }
 }
 
@@ -76,9 +79,9 @@ fn line_of(f: Fields) -> Line
     Line::Repeat(Reg(f.register), f.operand)
 }
 
-// Line j of a routine of a taken book.
+// Line j of a routine.
 pub fn line_at(b: &[u8], counts: Counts, routine: u16, j: RoutineLine) -> Line
-    requires { ⌜ Taken-with (now b) counts ⌝ }
+    requires { ⌜ Tabled (now b) counts ⌝ }
     requires { ⌜ routine < counts .routines ⌝ }
     requires { ⌜ j .0 < count (now b) routine ⌝ }
     ensures { λ r. ⌜ line-told r ≡ line-of (fields-in (now (b .entry)) routine (j .0)) ⌝ }

@@ -11,20 +11,22 @@ fn joined(low: u8, high: u8) -> u16
 }
 
 // The number that stands at i.
-pub(crate) fn two_byte(b: &[u8], i: usize) -> u16
+pub fn two_byte(b: &[u8], i: usize) -> u16
     requires { ⌜ i + 1 < length (now b) ⌝ }
     ensures { λ r. ⌜ r ≡ two-byte (now (b .entry)) i ⌝ }
 {
     joined(b[i], b[i + 1])
 }
 
-pub(crate) fn low(n: u16) -> u8
+// Its low byte.
+pub fn low(n: u16) -> u8
     ensures { λ r. ⌜ r ≡ n % 256 ⌝ }
 {
     (n % 256) as u8
 }
 
-pub(crate) fn high(n: u16) -> u8
+// Its high byte.
+pub fn high(n: u16) -> u8
     ensures { λ r. ⌜ r ≡ n / 256 % 256 ⌝ }
 {
     (n / 256 % 256) as u8

@@ -1,7 +1,7 @@
 // The table of refusals, and what a refusal carries.
 ghost use mathlib.Core.Path.{_≡_};
-ghost use Rattle.scope.specs.Refusals.{refuse, refusal};
-ghost use Rattle.book.specs.Told.{name-told, refusal-told, verdict-told};
+ghost use Rattle.scope.specs.Refusals.{refusal};
+ghost use Rattle.book.specs.Told.{name-told, refusal-told};
 
 // The table's names, in its order.
 pub enum Name {
@@ -33,8 +33,8 @@ pub struct Refusal {
 }
 
 impl Refusal {
-    // Every refusal is made here.
-    pub fn of(name: Name, place: u16) -> Refusal
+    // With its place. Every refusal is made here.
+    pub fn at(name: Name, place: u16) -> Refusal
         ensures { λ r. ⌜ refusal-told r ≡ refusal (name-told name) place ⌝ }
     {
         Refusal {
@@ -42,17 +42,17 @@ impl Refusal {
             place: place,
         }
     }
+
+    // Of the call as a whole: its place is 0.
+    pub fn of(name: Name) -> Refusal
+        ensures { λ r. ⌜ refusal-told r ≡ refusal (name-told name) 0 ⌝ }
+    {
+        Refusal::at(name, 0)
+    }
 }
 
 // What a row of tests comes to: nothing is wrong, or the refusal that is given.
 pub enum Verdict {
     Pass,
     Refuse(Refusal),
-}
-
-// The verdict of a test that finds its fault.
-pub fn refuse(name: Name, place: u16) -> Verdict
-    ensures { λ r. ⌜ verdict-told r ≡ refuse (refusal (name-told name) place) ⌝ }
-{
-    Verdict::Refuse(Refusal::of(name, place))
 }

@@ -1,21 +1,19 @@
 // The routine table, 4 bytes each: first line, number of lines. Test 6.
 ghost use mathlib.Core.Path.{_≡_};
-ghost use Prim.Native.Nat.{_+_, _*_, _≤_};
-ghost use lib.ListN.{length};
-ghost use Rattle.scope.specs.Book.{header-bytes, entry-bytes, first-line, count, table-verdict};
+ghost use Rattle.scope.specs.Book.{first-line, count, table-verdict};
 ghost use Rattle.book.specs.Told.{verdict-told};
-ghost use Rattle.book.specs.Asked.{Sized};
+ghost use Rattle.book.specs.Asked.{Entry-within, Sized};
 use super::header::Counts;
 use super::header::ENTRY_BYTES;
 use super::header::HEADER_BYTES;
 use super::numbers::two_byte;
 use super::refusals::Name;
+use super::refusals::Refusal;
 use super::refusals::Verdict;
-use super::refusals::refuse;
 
 // The line of the whole book at which a routine starts.
 pub fn first_line(b: &[u8], routine: u16) -> u16
-    requires { ⌜ header-bytes + entry-bytes * routine + entry-bytes ≤ length (now b) ⌝ }
+    requires { ⌜ Entry-within (now b) routine ⌝ }
     ensures { λ r. ⌜ r ≡ first-line (now (b .entry)) routine ⌝ }
 {
     two_byte(b, HEADER_BYTES + ENTRY_BYTES * routine as usize)
@@ -23,7 +21,7 @@ pub fn first_line(b: &[u8], routine: u16) -> u16
 
 // How many lines a routine has.
 pub fn count(b: &[u8], routine: u16) -> u16
-    requires { ⌜ header-bytes + entry-bytes * routine + entry-bytes ≤ length (now b) ⌝ }
+    requires { ⌜ Entry-within (now b) routine ⌝ }
     ensures { λ r. ⌜ r ≡ count (now (b .entry)) routine ⌝ }
 {
     two_byte(b, HEADER_BYTES + ENTRY_BYTES * routine as usize + 2)
@@ -41,13 +39,13 @@ pub(crate) fn table_verdict(b: &[u8], counts: Counts) -> Verdict
     while r < routines {
         let first = first_line(b, r) as usize;
         if first != due {
-            return refuse(Name::Routine, r);
+            return Verdict::Refuse(Refusal::at(Name::Routine, r));
         }
         due = first + count(b, r) as usize;
         r += 1;
     }
     if due != lines as usize {
-        return refuse(Name::Routine, routines - 1);
+        return Verdict::Refuse(Refusal::at(Name::Routine, routines - 1));
     }
     Verdict::Pass
 }

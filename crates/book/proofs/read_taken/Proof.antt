@@ -32,8 +32,8 @@ returns-2 : tie.Need-returns-2
 unfolding name-told
 returns-2 c = search no-such-line
 
-cast-t11 : tie.Need-cast-t11
-cast-t11 c = search needs
+cast-j : tie.Need-cast-j
+cast-j c = search needs
 
 line-at-requires : tie.Need-line-at-requires
 line-at-requires c κs = search needs
@@ -53,6 +53,6 @@ read-taken-spec =
     cast-count
     of-requires-2
     returns-2
-    cast-t11
+    cast-j
     line-at-requires
     returns-3)

@@ -6,8 +6,8 @@ use Rattle.book.proofs.flat.put_header.Tie as tie
 use Rattle.scope.specs.Flattening.{flat-book-bytes}
 use Rattle.book.proofs.Written.{header-written}
 
-cast-front : tie.Need-cast-front
-cast-front c = search needs
+cast-lines-at : tie.Need-cast-lines-at
+cast-lines-at c = search needs
 
 put-two-requires : tie.Need-put-two-requires
 unfolding flat-book-bytes
@@ -48,7 +48,7 @@ pub put-header-spec : {M : Type 1} → statement M
 put-header-spec =
     tie.close
     (tie.spec
-    cast-front
+    cast-lines-at
     put-two-requires
     cast-put-two
     put-two-requires-2

@@ -5,13 +5,13 @@ use Rattle.book.proofs.header.header_verdict.Statement.{statement}
 use Rattle.book.proofs.header.header_verdict.Tie as tie
 use Rattle.book.proofs.Rules.{refusing}
 use Rattle.scope.specs.Book.{header-verdict, header-test}
-use Rattle.book.specs.Told.{name-told}
+use Rattle.book.specs.Told.{name-told, verdict-told}
 
-refuse-requires : tie.Need-refuse-requires
-refuse-requires c κs = search needs
+of-requires : tie.Need-of-requires
+of-requires c κs = search needs
 
 returns : tie.Need-returns
-unfolding header-verdict header-test name-told
+unfolding header-verdict header-test name-told verdict-told
 returns c = search refusing
 
 read-header-requires : tie.Need-read-header-requires
@@ -26,5 +26,4 @@ returns-2 c = cc
 
 pub header-verdict-spec : {M : Type 1} → statement M
 header-verdict-spec =
-    tie.close
-    (tie.spec refuse-requires returns read-header-requires header-test-requires returns-2)
+    tie.close (tie.spec of-requires returns read-header-requires header-test-requires returns-2)

@@ -18,14 +18,14 @@ mul-at-2 c = search needs
 add-at-2 : tie.Need-add-at-2
 add-at-2 c = search needs
 
-shared-slice-read-t11 : tie.Need-shared-slice-read-t11
-shared-slice-read-t11 c = search needs
+shared-slice-read-kind : tie.Need-shared-slice-read-kind
+shared-slice-read-kind c = search needs
 
-add-t5 : tie.Need-add-t5
-add-t5 c = search needs
+add-register : tie.Need-add-register
+add-register c = search needs
 
-shared-slice-read-t13 : tie.Need-shared-slice-read-t13
-shared-slice-read-t13 c = search needs
+shared-slice-read-register : tie.Need-shared-slice-read-register
+shared-slice-read-register c = search needs
 
 add-two-byte : tie.Need-add-two-byte
 add-two-byte c = search needs
@@ -45,9 +45,9 @@ fields-at-spec =
     add-at
     mul-at-2
     add-at-2
-    shared-slice-read-t11
-    add-t5
-    shared-slice-read-t13
+    shared-slice-read-kind
+    add-register
+    shared-slice-read-register
     add-two-byte
     two-byte-requires
     returns)

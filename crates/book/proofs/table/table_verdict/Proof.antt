@@ -22,11 +22,11 @@ first-line-requires c κs = search needs
 cast-first : tie.Need-cast-first Inv-loop μ-loop
 cast-first c = search needs
 
-refuse-requires : tie.Need-refuse-requires Inv-loop μ-loop
-refuse-requires c κs = search needs
+at-requires : tie.Need-at-requires Inv-loop μ-loop
+at-requires c κs = search needs
 
 returns : tie.Need-returns Inv-loop μ-loop
-unfolding name-told
+unfolding name-told verdict-told
 returns c = search entry-refused
 
 count-requires : tie.Need-count-requires Inv-loop μ-loop
@@ -50,14 +50,14 @@ loop-again c = search due-next
 cast-if2 : tie.Need-cast-if2 Inv-loop μ-loop
 cast-if2 c = search needs
 
-sub-refuse : tie.Need-sub-refuse Inv-loop μ-loop
-sub-refuse c = search needs
+sub-at : tie.Need-sub-at Inv-loop μ-loop
+sub-at c = search needs
 
-refuse-requires-2 : tie.Need-refuse-requires-2 Inv-loop μ-loop
-refuse-requires-2 c κs = search needs
+at-requires-2 : tie.Need-at-requires-2 Inv-loop μ-loop
+at-requires-2 c κs = search needs
 
 returns-2 : tie.Need-returns-2 Inv-loop μ-loop
-unfolding name-told
+unfolding name-told verdict-told
 returns-2 c = search end-refused
 
 returns-3 : tie.Need-returns-3 Inv-loop μ-loop
@@ -73,7 +73,7 @@ table-verdict-spec =
     loop-holds
     first-line-requires
     cast-first
-    refuse-requires
+    at-requires
     returns
     count-requires
     cast-due
@@ -82,7 +82,7 @@ table-verdict-spec =
     loop-less
     loop-again
     cast-if2
-    sub-refuse
-    refuse-requires-2
+    sub-at
+    at-requires-2
     returns-2
     returns-3)

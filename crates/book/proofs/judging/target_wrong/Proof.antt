@@ -1,8 +1,8 @@
--- `tests::target_wrong` is test 9 of the definitions.
+-- `judging::target_wrong` is test 9 of the definitions.
 -- Each comparison of the code is one of the test's, in its order. Assumes nothing.
 use borrow.Author.Needs.{needs}
-use Rattle.book.proofs.tests.target_wrong.Statement.{statement}
-use Rattle.book.proofs.tests.target_wrong.Tie as tie
+use Rattle.book.proofs.judging.target_wrong.Statement.{statement}
+use Rattle.book.proofs.judging.target_wrong.Tie as tie
 use Rattle.book.proofs.Rules.{tests, calls, via}
 use Rattle.scope.specs.Book.{target-wrong}
 

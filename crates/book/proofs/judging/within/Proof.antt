@@ -1,8 +1,8 @@
--- `tests::within` tells whether a line is within the limits of a row.
+-- `judging::within` tells whether a line is within the limits of a row.
 -- Each comparison of the code is one of the test's, in its order. Assumes nothing.
 use borrow.Author.Needs.{needs}
-use Rattle.book.proofs.tests.within.Statement.{statement}
-use Rattle.book.proofs.tests.within.Tie as tie
+use Rattle.book.proofs.judging.within.Statement.{statement}
+use Rattle.book.proofs.judging.within.Tie as tie
 use Rattle.book.proofs.Rules.{tests}
 use Rattle.book.specs.Limits.{within}
 

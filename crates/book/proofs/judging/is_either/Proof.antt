@@ -1,7 +1,7 @@
--- `tests::is_either` tells whether the kind is one of two.
+-- `judging::is_either` tells whether the kind is one of two.
 -- Each comparison of the code is one of the test's, in its order. Assumes nothing.
-use Rattle.book.proofs.tests.is_either.Statement.{statement}
-use Rattle.book.proofs.tests.is_either.Tie as tie
+use Rattle.book.proofs.judging.is_either.Statement.{statement}
+use Rattle.book.proofs.judging.is_either.Tie as tie
 use Rattle.book.proofs.Rules.{tests}
 
 returns : tie.Need-returns

@@ -1,8 +1,8 @@
--- `tests::register_wrong` is test 8 of the definitions.
+-- `judging::register_wrong` is test 8 of the definitions.
 -- Each comparison of the code is one of the test's, in its order. Assumes nothing.
 use borrow.Author.Needs.{needs}
-use Rattle.book.proofs.tests.register_wrong.Statement.{statement}
-use Rattle.book.proofs.tests.register_wrong.Tie as tie
+use Rattle.book.proofs.judging.register_wrong.Statement.{statement}
+use Rattle.book.proofs.judging.register_wrong.Tie as tie
 use Rattle.book.proofs.Rules.{tests, via}
 use Rattle.scope.specs.Book.{register-wrong}
 

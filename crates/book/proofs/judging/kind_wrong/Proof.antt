@@ -1,7 +1,7 @@
--- `tests::kind_wrong` is test 7 of the definitions.
+-- `judging::kind_wrong` is test 7 of the definitions.
 -- Each comparison of the code is one of the test's, in its order. Assumes nothing.
-use Rattle.book.proofs.tests.kind_wrong.Statement.{statement}
-use Rattle.book.proofs.tests.kind_wrong.Tie as tie
+use Rattle.book.proofs.judging.kind_wrong.Statement.{statement}
+use Rattle.book.proofs.judging.kind_wrong.Tie as tie
 use Rattle.book.proofs.Rules.{tests}
 use Rattle.scope.specs.Book.{kind-wrong}
 

@@ -1,4 +1,4 @@
-// The tests of the lines, 7 to 10: each line is read, and then judged.
+// The lines' tests, 7 to 10: each line is read, and then judged.
 ghost use mathlib.Core.Path.{_≡_};
 ghost use Rattle.scope.specs.Words.{_is_, _or_};
 ghost use Rattle.scope.specs.Book.{kind-wrong, register-wrong, target-wrong, callee-wrong, line-test, lines-verdict};
@@ -14,8 +14,8 @@ use super::lines::INC;
 use super::lines::REPEAT;
 use super::lines::fields_at;
 use super::refusals::Name;
+use super::refusals::Refusal;
 use super::refusals::Verdict;
-use super::refusals::refuse;
 use super::table;
 
 const LAST_REGISTER: u8 = 31;
@@ -77,22 +77,22 @@ fn line_test(f: Fields, caller: u16, count: u16, place: u16) -> Verdict
 {
     let kind = f.kind;
     if kind_wrong(kind) {
-        return refuse(Name::Kind, place);
+        return Verdict::Refuse(Refusal::at(Name::Kind, place));
     }
     if register_wrong(kind, f.register) {
-        return refuse(Name::Register, place);
+        return Verdict::Refuse(Refusal::at(Name::Register, place));
     }
     if target_wrong(kind, f.operand, count) {
-        return refuse(Name::Target, place);
+        return Verdict::Refuse(Refusal::at(Name::Target, place));
     }
     if callee_wrong(kind, f.operand, caller) {
-        return refuse(Name::Callee, place);
+        return Verdict::Refuse(Refusal::at(Name::Callee, place));
     }
     Verdict::Pass
 }
 
 // What a line's register has to be below, for kinds 0 to 7, and then what its operand has to be below, so that nothing of 7 to 10 is wrong.
-fn limits(caller: u16, count: u16) -> [u32; 16]
+fn limits(caller: u16, count: u16) -> [u32; 2 * KINDS]
     ensures { λ r. ⌜ r ≡ limits caller count ⌝ }
 {
     let register = LAST_REGISTER as u32 + 1;
@@ -118,8 +118,8 @@ fn limits(caller: u16, count: u16) -> [u32; 16]
     ]
 }
 
-// A look at the limits costs the same for every kind of line.
-fn within(f: Fields, row: &[u32; 16]) -> bool
+// Whether a line is within the limits of its kind. It takes as long for every kind.
+fn within(f: Fields, row: &[u32; 2 * KINDS]) -> bool
     ensures { λ r. ⌜ r ≡ within (now (row .entry)) (f .kind) (f .register) (f .operand) ⌝ }
 {
     let kind = f.kind as usize;
@@ -135,7 +135,7 @@ fn within(f: Fields, row: &[u32; 16]) -> bool
 }
 
 // A line within its limits passes; any other is tested, and so the number that is wrong is found.
-fn line_verdict(f: Fields, caller: u16, count: u16, place: u16, row: &[u32; 16]) -> Verdict
+fn line_verdict(f: Fields, caller: u16, count: u16, place: u16, row: &[u32; 2 * KINDS]) -> Verdict
     requires { ⌜ now row ≡ limits caller count ⌝ }
     ensures { λ r. ⌜ verdict-told r ≡ line-test (f .kind) (f .register) (f .operand) caller count place ⌝ }
 {

@@ -1,8 +1,8 @@
--- `tests::line_verdict` is a line's row of tests.
+-- `judging::line_verdict` is a line's row of tests.
 -- A line within the limits passes them all, and any other is tested. Assumes nothing.
 use borrow.Author.Needs.{needs}
-use Rattle.book.proofs.tests.line_verdict.Statement.{statement}
-use Rattle.book.proofs.tests.line_verdict.Tie as tie
+use Rattle.book.proofs.judging.line_verdict.Statement.{statement}
+use Rattle.book.proofs.judging.line_verdict.Tie as tie
 use Rattle.book.proofs.Limits.{within-passes}
 use Rattle.book.specs.Told.{verdict-told}
 

@@ -1,8 +1,8 @@
--- `tests::callee_wrong` is test 10 of the definitions.
+-- `judging::callee_wrong` is test 10 of the definitions.
 -- Each comparison of the code is one of the test's, in its order. Assumes nothing.
 use borrow.Author.Needs.{needs}
-use Rattle.book.proofs.tests.callee_wrong.Statement.{statement}
-use Rattle.book.proofs.tests.callee_wrong.Tie as tie
+use Rattle.book.proofs.judging.callee_wrong.Statement.{statement}
+use Rattle.book.proofs.judging.callee_wrong.Tie as tie
 use Rattle.book.proofs.Rules.{tests, calls, via}
 use Rattle.scope.specs.Book.{callee-wrong}
 
