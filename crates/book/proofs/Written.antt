@@ -83,11 +83,11 @@ module _ (p : ℕ) (xs : Program) {x : Instruction} {rest : Program} (stands : d
       put ∙ rw so-far (written-on o _ _ 16 (16 + 4 * p) (omega (arith, long, size)) room ∙ ap (with-bytes o 16) (sym one-more-line))
 
 -- The header and then all lines: so the flat book stands at the front of the output.
-pub book-written : (o out out′ : List ℕ) (n p : ℕ) (xs : Program) → n ≡ length xs → n ≤ p → flat-book-bytes 0 ≤ length o
-    → out ≡ with-bytes o 0 (flat-header n) → out′ ≡ with-lines out p xs → out′ ≡ at-the-front-of o (flat-book xs)
+pub book-written : (o out out′ : List ℕ) (n : ℕ) (xs : Program) → n ≡ length xs → flat-book-bytes n ≤ length o
+    → out ≡ with-bytes o 0 (flat-header n) → out′ ≡ with-lines out n xs → out′ ≡ at-the-front-of o (flat-book xs)
 unfolding with-lines with-bytes at-the-front-of flat-book flat-header two-bytes-each two-bytes flat-book-bytes
-book-written o out out′ n p xs size all room header rest =
-    let whole : take p xs ≡ xs = take-all p xs (omega arith) in
+book-written o out out′ n xs size room header rest =
+    let whole : take n xs ≡ xs = take-all n xs (omega arith) in
     let from-0 : 0 + length (flat-book xs) ≡ length (flat-book xs) = omega arith in
-    rest ∙ rw (header, whole, size) (written-on o (flat-header (length xs)) (bytes-of-program xs) 0 16 refl room
+    rest ∙ rw (header, whole, size) (written-on o (flat-header (length xs)) (bytes-of-program xs) 0 16 refl (omega arith)
     ∙ ap (λ k. flat-book xs ++ drop k o) from-0)
