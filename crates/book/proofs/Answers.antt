@@ -20,6 +20,7 @@ use Rattle.book.specs.declared.Checked.the-variants as checked
 use Rattle.book.specs.declared.Read.the-variants as read
 use Rattle.book.specs.Told.{refusal-told, verdict-told, counts-told, check-told, line-told, read-told}
 use Rattle.book.specs.Asked.{Counts-of, Sized, Tabled, Taken-with}
+use Rattle.book.proofs.Scanned.{below-R}
 
 -- ---- what passing gives
 
@@ -114,10 +115,10 @@ module _ (b : List ℕ) (r : Checked) (told : check-told r ≡ check-answer b) w
 -- ---- reading
 
 module _ (b : List ℕ) (r j : ℕ) where
-  pub no-such-book : (k : Checked) {x : Refusal} → check-told k ≡ check-answer b → k ≡ checked.Refused x
+  pub book-refused : (k : Checked) {x : Refusal} → check-told k ≡ check-answer b → k ≡ checked.Refused x
       → read-told (read.Refused x) ≡ read-answer b r j
   unfolding read-told read-answer read-verdict
-  no-such-book k s e = sym (refused-exactly-when _ _ _ .1 (then-refuses _ (checked-refused b k s e)))
+  book-refused k s e = sym (refused-exactly-when _ _ _ .1 (then-refuses _ (checked-refused b k s e)))
 
   module _ (c : Counts) (t : Taken-with b c) where
     pub no-such-routine : (x : Refusal) → refusal-told x ≡ refusal NO-ROUTINE 0 → c .routines ≤ r
@@ -130,7 +131,7 @@ module _ (b : List ℕ) (r j : ℕ) where
 
     module _ (h : r < c .routines) where
       here : r < routines b
-      here = rw (sym (t .tabled .sized .counts .routines-are)) h
+      here = below-R r (t .tabled .sized) h
 
       pub no-such-line : (x : Refusal) (n : ℕ) → refusal-told x ≡ refusal LINE 0 → n ≡ count b r → n ≤ j
           → read-told (read.Refused x) ≡ read-answer b r j

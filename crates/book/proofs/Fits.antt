@@ -22,6 +22,7 @@ use Rattle.book.specs.declared.flat.Instruction.{Instruction}
 use Rattle.book.specs.declared.flat.Instruction.the-variants as flat
 use Rattle.book.specs.Told.{line-told, instruction-told}
 use Rattle.book.specs.Asked.{Line-within, Taken-with}
+use Rattle.book.proofs.Scanned.{below-R}
 
 -- ---- a line of a routine
 
@@ -44,7 +45,7 @@ told-fits (Repeat g k) (REPEAT-fits h s) = (omega arith, s)
 module _ (b : List ℕ) (c : Counts) (l : Line) (r j : ℕ) (t : Taken-with b c) (h : r < c .routines) (s : j < count b r)
     (e : line-told l ≡ line-of (fields-in b r j)) where
   here : r < routines b
-  here = rw (sym (t .tabled .sized .counts .routines-are)) h
+  here = below-R r (t .tabled .sized) h
 
   -- It stands at j in its routine of the book that the bytes say.
   pub line-stands : drop j (routine (book-of b) r) ≡ line-told l ∷ drop (suc j) (routine (book-of b) r)
@@ -88,8 +89,8 @@ module _ (b : List ℕ) (c : Counts) (l : Line) (r j : ℕ) (t : Taken-with b c)
 -- Behind its last line a routine has none.
 pub routine-ends : (b : List ℕ) (c : Counts) (r : ℕ) → Taken-with b c → r < c .routines → drop (count b r) (routine (book-of b) r) ≡ []
 routine-ends b c r t h =
-    let here : r < routines b = rw (sym (t .tabled .sized .counts .routines-are)) h in
-    rw (routine-in-the-book b r here) (drop-of-length-le _ {i = count b r} (omega (arith, length-routine-of b r)))
+    rw (routine-in-the-book b r (below-R r (t .tabled .sized) h))
+    (drop-of-length-le _ {i = count b r} (omega (arith, length-routine-of b r)))
 
 -- ---- a line of a flat book
 

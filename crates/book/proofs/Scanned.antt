@@ -18,7 +18,7 @@ use Rattle.book.specs.declared.refusals.Refusal as refusals
 use Rattle.book.specs.declared.refusals.Verdict as verdicts
 use Rattle.book.specs.declared.refusals.Verdict.the-variants.{Pass, Refuse}
 use Rattle.book.specs.Told.{fields-told, verdict-told}
-use Rattle.book.specs.Asked.{Tabled, Line-within}
+use Rattle.book.specs.Asked.{Sized, Tabled, Line-within}
 
 -- ---- any row of tests
 
@@ -93,13 +93,15 @@ table-right {b} {R} {due} {r} k l d h s =
 
 -- ---- the lines
 
+-- a routine below the count is a routine of the book
+pub below-R : {b : List ℕ} {c : Counts} (r : ℕ) → Sized b c → r < c .routines → r < routines b
+below-R r s h = rw (sym (s .counts .routines-are)) h
+
 -- Line j of routine r, which starts at f and has n lines, is a line of the book: its number fits, and it stands in the bytes.
 module _ {b : List ℕ} {c : Counts} (r f n j : ℕ) (t : Tabled b c) (h : r < c .routines) (starts : f ≡ first-line b r)
     (counted : n ≡ count b r) (l : j < n) where
   in-the-book : f + j < c .lines
-  in-the-book =
-      let here : r < routines b = rw (sym (t .sized .counts .routines-are)) h in
-      omega (arith, table-ends-within b (t .table-passes) r here, t .sized .counts .lines-are)
+  in-the-book = omega (arith, table-ends-within b (t .table-passes) r (below-R r (t .sized) h), t .sized .counts .lines-are)
 
   pub place-fits : Fits w16 (f + j)
   place-fits = record { fits = omega (arith, in-the-book, t .sized .lines-to-4096) }

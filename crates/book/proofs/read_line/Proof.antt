@@ -3,7 +3,7 @@
 use borrow.Author.Needs.{needs}
 use Rattle.book.proofs.read_line.Statement.{statement}
 use Rattle.book.proofs.read_line.Tie as tie
-use Rattle.book.proofs.Answers.{no-such-book, checked-taken}
+use Rattle.book.proofs.Answers.{book-refused, checked-taken}
 
 check-requires : tie.Need-check-requires
 check-requires c κs = search needs
@@ -18,7 +18,7 @@ read-taken-requires : tie.Need-read-taken-requires
 read-taken-requires c κs = search checked-taken
 
 returns : tie.Need-returns
-returns c = search no-such-book
+returns c = search book-refused
 
 returns-2 : tie.Need-returns-2
 returns-2 c = search needs
