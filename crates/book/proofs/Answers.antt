@@ -44,9 +44,9 @@ header-sized b c e k =
       size = rw (k .routines-are, k .lines-are) (h .length-as-due);
     }
 
-taken-tabled : (b : List ℕ) (c : Counts) → Taken b → Counts-of b c → Taken-with b c
+taken-with : (b : List ℕ) (c : Counts) → Taken b → Counts-of b c → Taken-with b c
 unfolding book-verdict
-taken-tabled b c t k =
+taken-with b c t k =
     let past = then-passes (header-verdict b) t in
     record {
       taken = t;
@@ -61,8 +61,8 @@ module _ (b : List ℕ) (front : Verdict) (header-says : verdict-told front ≡ 
   header-refuses e = sym (then-refuses _ (told-refusal header-says e))
 
   module _ (passes : front ≡ Pass) where
-    pub header-passed : header-bytes ≤ length b
-    header-passed = taken-header b (told-pass header-says passes) .has-a-header
+    pub header-is-there : header-bytes ≤ length b
+    header-is-there = taken-header b (told-pass header-says passes) .has-a-header
 
     pub sized : (c : Counts) → Counts-of b c → Sized b c
     sized c = header-sized b c (told-pass header-says passes)
@@ -87,9 +87,9 @@ module _ (b : List ℕ) (v : Verdict) (book-says : verdict-told v ≡ book-verdi
   unfolding check-told check-answer
   check-refuses e = sym (refused-exactly-when _ _ _ .1 (told-refusal book-says e))
 
-  pub book-passed : v ≡ Pass → header-bytes ≤ length b
+  pub book-has-a-header : v ≡ Pass → header-bytes ≤ length b
   unfolding book-verdict
-  book-passed e = taken-header b (then-passes (header-verdict b) (told-pass book-says e) .0) .has-a-header
+  book-has-a-header e = taken-header b (then-passes (header-verdict b) (told-pass book-says e) .0) .has-a-header
 
   pub check-takes : (c : Counts) → v ≡ Pass → Counts-of b c → check-told (checked.Taken c) ≡ check-answer b
   unfolding check-told counts-told check-answer
@@ -106,7 +106,7 @@ module _ (b : List ℕ) (r : Checked) (told : check-told r ≡ check-answer b) w
   checked-taken {c} e =
       let p = accepted-only-where-passed (book-verdict b) (sym told ∙ ap check-told e) in
       let same = sym (p .1) in
-      taken-tabled b c (p .0)
+      taken-with b c (p .0)
       (record {
         routines-are = ap (λ (x : book.Counts). x .routine-count) same;
         lines-are = ap (λ (x : book.Counts). x .line-count) same;

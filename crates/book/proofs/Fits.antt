@@ -27,15 +27,15 @@ use Rattle.book.proofs.Scanned.{below-R}
 -- ---- a line of a routine
 
 -- A line of routine r, which has n lines: its register is a register, its target a line or the end, its callee below r.
-unfoldable pub Fits : (r n : ℕ) → Line → Type 0
-Fits r n (Inc g) = g .0 < register-count
-Fits r n (Dec g u) = (g .0 < register-count) × (u .0 ≤ n)
-Fits r n (GoTo u) = u .0 ≤ n
-Fits r n (Call k) = k < r
-Fits r n (Repeat g k) = (g .0 < register-count) × (k < r)
+unfoldable pub Fits-line : (r n : ℕ) → Line → Type 0
+Fits-line r n (Inc g) = g .0 < register-count
+Fits-line r n (Dec g u) = (g .0 < register-count) × (u .0 ≤ n)
+Fits-line r n (GoTo u) = u .0 ≤ n
+Fits-line r n (Call k) = k < r
+Fits-line r n (Repeat g k) = (g .0 < register-count) × (k < r)
 
-told-fits : {r n : ℕ} (l : Line) → Line-fits r n (line-told l) → Fits r n l
-unfolding Fits line-told
+told-fits : {r n : ℕ} (l : Line) → Line-fits r n (line-told l) → Fits-line r n l
+unfolding Fits-line line-told
 told-fits (Inc g) (INC-fits h) = omega arith
 told-fits (Dec g u) (DEC-fits h s) = (omega arith, s)
 told-fits (GoTo u) (GO-TO-fits s) = s
@@ -48,42 +48,42 @@ module _ (b : List ℕ) (c : Counts) (l : Line) (r j : ℕ) (t : Taken-with b c)
   here = below-R r (t .tabled .sized) h
 
   -- It stands at j in its routine of the book that the bytes say.
-  pub line-stands : drop j (routine (book-of b) r) ≡ line-told l ∷ drop (suc j) (routine (book-of b) r)
-  line-stands =
+  pub read-line-stands : drop j (routine (book-of b) r) ≡ line-told l ∷ drop (suc j) (routine (book-of b) r)
+  read-line-stands =
       rw (routine-in-the-book b r here)
       (stands-in-its-routine b r j s ∙ ap (λ m. m ∷ drop (suc j) (routine-of b r)) (sym e))
 
-  pub line-fits : {m : Line} → l ≡ m → Fits r (count b r) m
+  pub line-fits : {m : Line} → l ≡ m → Fits-line r (count b r) m
   line-fits k =
       let taken = taken-line-fits (fields-in b r j) r (count b r) (taken-book b (t .taken) .lines-right r j here s) in
       rw k at (told-fits {r = r} {n = count b r} l (rw e taken))
 
   pub INC-register : {g : Reg} → l ≡ Inc g → g .0 < register-count
-  unfolding Fits
+  unfolding Fits-line
   INC-register k = line-fits k
 
   pub DEC-register : {g : Reg} {u : RoutineLine} → l ≡ Dec g u → g .0 < register-count
-  unfolding Fits
+  unfolding Fits-line
   DEC-register k = line-fits k .0
 
   pub DEC-target : {g : Reg} {u : RoutineLine} → l ≡ Dec g u → u .0 ≤ count b r
-  unfolding Fits
+  unfolding Fits-line
   DEC-target k = line-fits k .1
 
   pub GO-TO-target : {u : RoutineLine} → l ≡ GoTo u → u .0 ≤ count b r
-  unfolding Fits
+  unfolding Fits-line
   GO-TO-target k = line-fits k
 
   pub CALL-below : {q : ℕ} → l ≡ Call q → q < r
-  unfolding Fits
+  unfolding Fits-line
   CALL-below k = line-fits k
 
   pub REPEAT-register : {g : Reg} {q : ℕ} → l ≡ Repeat g q → g .0 < register-count
-  unfolding Fits
+  unfolding Fits-line
   REPEAT-register k = line-fits k .0
 
   pub REPEAT-below : {g : Reg} {q : ℕ} → l ≡ Repeat g q → q < r
-  unfolding Fits
+  unfolding Fits-line
   REPEAT-below k = line-fits k .1
 
 -- Behind its last line a routine has none.

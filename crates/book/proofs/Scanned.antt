@@ -20,6 +20,12 @@ use Rattle.book.specs.declared.refusals.Verdict.the-variants.{Pass, Refu
 use Rattle.book.specs.Told.{fields-told, verdict-told}
 use Rattle.book.specs.Asked.{Sized, Tabled, Line-within}
 
+-- ---- what the counts say
+
+-- a routine below the count is a routine of the book
+pub below-R : {b : List ℕ} {c : Counts} (r : ℕ) → Sized b c → r < c .routines → r < routines b
+below-R r s h = rw (sym (s .counts .routines-are)) h
+
 -- ---- any row of tests
 
 -- of n tests the first i pass
@@ -93,10 +99,6 @@ table-right {b} {R} {due} {r} k l d h s =
 
 -- ---- the lines
 
--- a routine below the count is a routine of the book
-pub below-R : {b : List ℕ} {c : Counts} (r : ℕ) → Sized b c → r < c .routines → r < routines b
-below-R r s h = rw (sym (s .counts .routines-are)) h
-
 -- Line j of routine r, which starts at f and has n lines, is a line of the book: its number fits, and it stands in the bytes.
 module _ {b : List ℕ} {c : Counts} (r f n j : ℕ) (t : Tabled b c) (h : r < c .routines) (starts : f ≡ first-line b r)
     (counted : n ≡ count b r) (l : j < n) where
@@ -141,6 +143,6 @@ pub routine-passed : (b : List ℕ) (r n j R : ℕ) → n ≡ count b r → Pass
 unfolding routine-verdict
 routine-passed b r n j R k p h q l = one-more q l (ap (first (line-verdict b r)) (sym k) ∙ all-passed p h)
 
-pub lines-right : (b : List ℕ) (R r : ℕ) → R ≡ routines b → Passed-to (routine-verdict b) R r → R ≤ r → pass ≡ lines-verdict b
+pub lines-all-right : (b : List ℕ) (R r : ℕ) → R ≡ routines b → Passed-to (routine-verdict b) R r → R ≤ r → pass ≡ lines-verdict b
 unfolding lines-verdict
-lines-right b R r k p h = sym (ap (first (routine-verdict b)) (sym k) ∙ all-passed p h)
+lines-all-right b R r k p h = sym (ap (first (routine-verdict b)) (sym k) ∙ all-passed p h)

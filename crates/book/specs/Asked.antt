@@ -23,7 +23,7 @@ pub record Counts-of (b : List ℕ) (c : Counts) : Type 0 where
   pub routines-are : c .routines ≡ routines b
   pub lines-are : c .lines ≡ lines b
 
--- past 1 to 5: its counts, and as many bytes as they need
+-- what a book past 1 to 5 gives: its counts, and as many bytes as they need
 pub record Sized (b : List ℕ) (c : Counts) : Type 0 where
   pub counts : Counts-of b c
   pub some-routine : 1 ≤ c .routines
@@ -31,7 +31,7 @@ pub record Sized (b : List ℕ) (c : Counts) : Type 0 where
   pub lines-to-4096 : c .lines ≤ most-lines
   pub size : length b ≡ header-bytes + entry-bytes * c .routines + line-bytes * c .lines
 
--- past 6 too
+-- and past 6
 pub record Tabled (b : List ℕ) (c : Counts) : Type 0 where
   pub sized : Sized b c
   pub table-passes : table-verdict b ≡ pass

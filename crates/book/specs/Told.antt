@@ -1,4 +1,4 @@
--- What each answer tells, in document 01's names, numbers and values: one clause a case, and nothing is worked out.
+-- What each answer tells, in document 01's names and values: one clause a case. A name's number is the table's (`number` of `Refusals`).
 -- Assumes nothing.
 use Rattle.scope.specs.Refusals as paper
 use Rattle.scope.specs.Refusals.{Answer, refused, accepted, refusal}

@@ -23,7 +23,7 @@ use super::numbers::high;
 use super::numbers::low;
 
 // The header of a flat book, with the entry of its one routine.
-pub const FLAT_HEADER_BYTES: usize = HEADER_BYTES + ENTRY_BYTES;
+const FLAT_HEADER_BYTES: usize = HEADER_BYTES + ENTRY_BYTES;
 
 // A flat line number, kept apart from a routine's.
 pub struct FlatLine(pub u16);
@@ -64,7 +64,7 @@ pub fn put_header(out: &mut [u8], n: u16)
     put_two(out, 0, THE_FORMAT, 1);
     put_two(out, 4, n, HEADER_BYTES as u16);
     put_two(out, 8, lines_at, lines_at + LINE_BYTES as u16 * n);
-    put_two(out, 12, 0, n);
+    put_two(out, HEADER_BYTES, 0, n);
 }
 
 // The table of kinds, for an instruction.

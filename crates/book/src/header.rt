@@ -10,11 +10,11 @@ use super::refusals::Name;
 use super::refusals::Refusal;
 use super::refusals::Verdict;
 
-pub const HEADER_BYTES: usize = 12;
+pub(crate) const HEADER_BYTES: usize = 12;
 
-pub const ENTRY_BYTES: usize = 4;
+pub(crate) const ENTRY_BYTES: usize = 4;
 
-pub const LINE_BYTES: usize = 4;
+pub(crate) const LINE_BYTES: usize = 4;
 
 pub(crate) const THE_FORMAT: u16 = 1;
 

@@ -118,7 +118,7 @@ fn limits(caller: u16, count: u16) -> [u32; 2 * KINDS]
     ]
 }
 
-// Whether a line is within the limits of its kind. It takes as long for every kind.
+// Whether a line is within the limits of its kind. A good line takes as long whatever its kind.
 fn within(f: Fields, row: &[u32; 2 * KINDS]) -> bool
     ensures { λ r. ⌜ r ≡ within (now (row .entry)) (f .kind) (f .register) (f .operand) ⌝ }
 {

@@ -1,5 +1,5 @@
 -- What a taken book gives, in plain facts: its counts and length, its table in order, its lines; and the same of the book that it says.
--- Read off `taken-exactly-when`, test by test; the decoded lines stand in lists by a rule. Assumes nothing.
+-- Read off the tests that pass, in the words of the table; the decoded lines stand in lists by a rule. Assumes nothing.
 use Prim.Native.Nat.{ℕ, zero, suc, _+_, _<_, _≤_}
 use native.Mathlib.Omega.{arith}
 use mathlib.Core.Path.{_≡_, refl, sym, _∙_, ap}

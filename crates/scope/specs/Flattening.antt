@@ -81,13 +81,13 @@ unfoldable pub bytes-of-program : Program → List ℕ
 bytes-of-program [] = []
 bytes-of-program (x ∷ xs) = bytes-of-fields (fields-of (as-line x)) ++ bytes-of-program xs
 
--- The result is a book with one routine: the header and the entry of a routine of n lines, ..
+-- The result is a book with one routine, .. (its header and the entry of its routine, of n lines)
 unfoldable pub flat-header : (n : ℕ) → List ℕ
 flat-header n =
     two-bytes-each (the-format ∷ 1 ∷ n ∷ header-bytes ∷ line-table-due 1 ∷ length-due 1 n ∷ [])
     ++ two-bytes-each (0 ∷ n ∷ [])
 
--- .. and its lines: ..
+-- (.. and then its lines)
 unfoldable pub flat-book : Program → List ℕ
 flat-book xs = flat-header (length xs) ++ bytes-of-program xs
 

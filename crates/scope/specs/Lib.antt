@@ -1,4 +1,4 @@
--- Document 01 as definitions: a file for each of its sections, in the paper's order and words. A reader has to believe only these.
+-- Document 01 as definitions: a file for each of its sections, in the paper's order and words. Of what the paper says a reader has to believe only these.
 -- "What the counter page does"
 -- Built: checking a book (`check-answer`), reading one line of it (`read-answer`), flattening one routine (`flatten-call`), running a flat
 -- program (`run-call`), a single bench step (`bench-call`), a quote for the longest run (`quote-answer`), and one program over these

@@ -3,7 +3,7 @@
 use borrow.Author.Needs.{needs}
 use Rattle.book.proofs.book_verdict.Statement.{statement}
 use Rattle.book.proofs.book_verdict.Tie as tie
-use Rattle.book.proofs.Answers.{header-refuses, header-passed, sized, table-refuses, tabled, lines-decide}
+use Rattle.book.proofs.Answers.{header-refuses, header-is-there, sized, table-refuses, tabled, lines-decide}
 
 header-verdict-requires : tie.Need-header-verdict-requires
 header-verdict-requires c κs = search needs
@@ -18,7 +18,7 @@ enum-told : tie.Need-enum-told
 enum-told c = search needs
 
 counts-of-requires : tie.Need-counts-of-requires
-counts-of-requires c κs = search header-passed
+counts-of-requires c κs = search header-is-there
 
 table-verdict-requires : tie.Need-table-verdict-requires
 table-verdict-requires c κs = search sized

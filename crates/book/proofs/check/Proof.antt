@@ -3,7 +3,7 @@
 use borrow.Author.Needs.{needs}
 use Rattle.book.proofs.check.Statement.{statement}
 use Rattle.book.proofs.check.Tie as tie
-use Rattle.book.proofs.Answers.{check-refuses, book-passed, check-takes}
+use Rattle.book.proofs.Answers.{check-refuses, book-has-a-header, check-takes}
 
 book-verdict-requires : tie.Need-book-verdict-requires
 book-verdict-requires c κs = search needs
@@ -15,7 +15,7 @@ enum-told : tie.Need-enum-told
 enum-told c = search needs
 
 counts-of-requires : tie.Need-counts-of-requires
-counts-of-requires c κs = search book-passed
+counts-of-requires c κs = search book-has-a-header
 
 returns : tie.Need-returns
 returns c = search check-refuses

@@ -6,7 +6,7 @@ use Rattle.book.proofs.judging.lines_verdict.Tie as tie
 use Prim.Native.Nat.{_-_}
 use Rattle.scope.specs.Book.{line-verdict, routine-verdict}
 use Rattle.book.specs.Told.{verdict-told}
-use Rattle.book.proofs.Scanned.{Passed-to, none-yet, place-fits, line-within, line-passed, line-refused, routine-passed, lines-right}
+use Rattle.book.proofs.Scanned.{Passed-to, none-yet, place-fits, line-within, line-passed, line-refused, routine-passed, lines-all-right}
 
 abbrev Inv-loop : tie.InvT-loop
 Inv-loop b routines r first count row j₀ j = Passed-to (line-verdict b r) count j
@@ -70,7 +70,7 @@ book-again c = search routine-passed
 
 returns : tie.Need-returns Inv-loop μ-loop Inv-book μ-book
 unfolding verdict-told
-returns c = search lines-right
+returns c = search lines-all-right
 
 returns-2 : tie.Need-returns-2 Inv-loop μ-loop Inv-book μ-book
 returns-2 c = search line-refused

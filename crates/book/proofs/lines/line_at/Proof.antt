@@ -1,5 +1,5 @@
 -- `lines::line_at` is line j of the routine.
--- In a taken book every line of a routine is a line of the book, so it stands in the bytes. Assumes nothing.
+-- Past the table's tests every line of a routine is a line of the book, so it stands in the bytes. Assumes nothing.
 use borrow.Author.Needs.{needs}
 use Rattle.book.proofs.lines.line_at.Statement.{statement}
 use Rattle.book.proofs.lines.line_at.Tie as tie
