@@ -18,14 +18,14 @@ pub fn two_byte(b: &[u8], i: usize) -> u16
     joined(b[i], b[i + 1])
 }
 
-// Its low byte.
+// The low byte of a number.
 pub fn low(n: u16) -> u8
     ensures { λ r. ⌜ r ≡ n % 256 ⌝ }
 {
     (n % 256) as u8
 }
 
-// Its high byte.
+// The high byte of a number.
 pub fn high(n: u16) -> u8
     ensures { λ r. ⌜ r ≡ n / 256 % 256 ⌝ }
 {
