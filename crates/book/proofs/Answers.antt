@@ -4,7 +4,6 @@ use Prim.Native.Nat.{ℕ, _<_, _≤_}
 use mathlib.Core.Path.{_≡_, sym, _∙_, ap}
 use mathlib.Core.List.{List}
 use lib.ListN.{length}
-use Rattle.scope.specs.Refusals as paper
 use Rattle.scope.specs.Refusals.{NO-ROUTINE, LINE, pass, refuse, refusal, accepted}
 use Rattle.scope.specs.Book as book
 use Rattle.scope.specs.Book.{header-bytes, routines, line-table-due, length-due, header-verdict, count, table-verdict, fields-of, line-of, fields-in, lines-verdict, book-verdict, Taken, check-answer, read-verdict, read-answer}
@@ -20,17 +19,9 @@ use Rattle.book.specs.declared.Checked.the-variants as checked
 use Rattle.book.specs.declared.Read.the-variants as read
 use Rattle.book.specs.Told.{refusal-told, verdict-told, counts-told, check-told, line-told, read-told}
 use Rattle.book.specs.Asked.{Counts-of, Sized, Tabled, Taken-with}
-use Rattle.book.proofs.Scanned.{below-R}
+use Rattle.book.proofs.Scanned.{below-R, told-pass, told-refusal}
 
 -- ---- what passing gives
-
-told-pass : {v : Verdict} {w : paper.Verdict} → verdict-told v ≡ w → v ≡ Pass → w ≡ pass
-unfolding verdict-told
-told-pass s e = sym s ∙ ap verdict-told e
-
-told-refusal : {v : Verdict} {w : paper.Verdict} {x : Refusal} → verdict-told v ≡ w → v ≡ Refuse x → w ≡ refuse (refusal-told x)
-unfolding verdict-told
-told-refusal s e = sym s ∙ ap verdict-told e
 
 header-sized : (b : List ℕ) (c : Counts) → header-verdict b ≡ pass → Counts-of b c → Sized b c
 unfolding length-due line-table-due

@@ -17,7 +17,7 @@ use Rattle.book.specs.declared.lines.Fields.{Fields}
 use Rattle.book.specs.declared.refusals.Refusal as refusals
 use Rattle.book.specs.declared.refusals.Verdict as verdicts
 use Rattle.book.specs.declared.refusals.Verdict.the-variants.{Pass, Refuse}
-use Rattle.book.specs.Told.{fields-told, verdict-told}
+use Rattle.book.specs.Told.{refusal-told, fields-told, verdict-told}
 use Rattle.book.specs.Asked.{Sized, Tabled, Line-within}
 
 -- ---- what the counts say
@@ -25,6 +25,16 @@ use Rattle.book.specs.Asked.{Sized, Tabled, Line-within}
 -- a routine below the count is a routine of the book
 pub below-R : {b : List ℕ} {c : Counts} (r : ℕ) → Sized b c → r < c .routines → r < routines b
 below-R r s h = rw (sym (s .counts .routines-are)) h
+
+-- ---- what a verdict in hand says of the definition's
+
+pub told-pass : {v : verdicts.Verdict} {w : Verdict} → verdict-told v ≡ w → v ≡ Pass → w ≡ pass
+unfolding verdict-told
+told-pass s e = sym s ∙ ap verdict-told e
+
+pub told-refusal : {v : verdicts.Verdict} {w : Verdict} {x : refusals.Refusal} → verdict-told v ≡ w → v ≡ Refuse x → w ≡ refuse (refusal-told x)
+unfolding verdict-told
+told-refusal s e = sym s ∙ ap verdict-told e
 
 -- ---- any row of tests
 
@@ -128,14 +138,13 @@ module _ (b : List ℕ) (x : Fields) (r f n j : ℕ) (v : verdicts.Verdict) (sta
       said ∙ rw (k, g, o, place, counted)
 
   pub line-passed : v ≡ Pass → Passed-to (line-verdict b r) n j → j < n → Passed-to (line-verdict b r) n (j + 1)
-  unfolding verdict-told
-  line-passed e p h = one-more p h (sym line-tested ∙ ap verdict-told e)
+  line-passed e p h = one-more p h (told-pass line-tested e)
 
   pub line-refused : {y : refusals.Refusal} (R : ℕ) → v ≡ Refuse y → Passed-to (line-verdict b r) n j → j < n
       → Passed-to (routine-verdict b) R r → r < R → R ≡ routines b → verdict-told (Refuse y) ≡ lines-verdict b
   unfolding verdict-told lines-verdict routine-verdict
   line-refused R e p h q l k =
-      let hit = stopped p h (sym line-tested ∙ ap verdict-told e) in
+      let hit = stopped p h (told-refusal line-tested e) in
       sym (ap (first (routine-verdict b)) (sym k) ∙ stopped q l (ap (first (line-verdict b r)) (sym counted) ∙ hit))
 
 pub routine-passed : (b : List ℕ) (r n j R : ℕ) → n ≡ count b r → Passed-to (line-verdict b r) n j → n ≤ j

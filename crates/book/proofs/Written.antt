@@ -5,11 +5,12 @@ use native.Mathlib.Omega.{arith}
 use native.Mathlib.Numerals.{add-one, add-two, add-three}
 use mathlib.Core.Path.{_≡_, refl, sym, _∙_, ap}
 use mathlib.Core.List.{List, [], _∷_, _++_, append-assoc, append-nil}
-use lib.ListN.{length, take, drop, getD, set, length-append, length-drop, take-append-drop}
+use lib.ListN.{length, take, drop, getD, set, length-append, take-append-drop}
 use lib.Seq.{length-take-le, take-all, take-suc, take-at, drop-append-add, drop-cons, drop-drop, sets-eq}
 use Rattle.scope.specs.Book.{fields-of, two-bytes, two-bytes-each, the-format, header-bytes, line-table-due, length-due}
-use Rattle.scope.specs.Ram.{Instruction, Program}
+use Rattle.scope.specs.Ram.{Instruction, Program, has}
 use Rattle.scope.specs.Flattening.{bytes-of-fields, as-line, bytes-of-program, flat-header, flat-book, flat-book-bytes, at-the-front-of}
+use Rattle.scope.proofs.Ram.{has-below}
 use Rattle.scope.proofs.WrittenBook.{length-of-bytes}
 use Rattle.book.specs.Written.{with-bytes, with-lines}
 
@@ -58,7 +59,7 @@ bytes-of-both (x ∷ xs) ys = rw (bytes-of-both xs ys) (sym (append-assoc (bytes
 
 module _ (p : ℕ) (xs : Program) {x : Instruction} {rest : Program} (stands : drop p xs ≡ x ∷ rest) where
   below : p < length xs
-  below = omega (arith, length-drop p xs, ap length stands)
+  below = has-below (has stands)
 
   same : getD xs p x ≡ x
   same =
