@@ -1,5 +1,7 @@
 -- A flat book written a piece at a time: each piece stands behind the last, and what is not written yet is as it was.
 -- Writing at the end of what was written is writing both at once (`written-on`). Assumes nothing.
+use mir.Syntax.{w16}
+use mir.Val.{Fits}
 use Prim.Native.Nat.{ℕ, _+_, _*_, _<_, _≤_}
 use native.Mathlib.Omega.{arith}
 use native.Mathlib.Numerals.{add-one, add-two, add-three}
@@ -8,10 +10,16 @@ use mathlib.Core.List.{List, [], _∷_, _++_, append-assoc, append-nil}
 use lib.ListN.{length, take, drop, getD, set, length-append, take-append-drop}
 use lib.Seq.{length-take-le, take-all, take-suc, take-at, drop-append-add, drop-cons, drop-drop, sets-eq}
 use Rattle.scope.specs.Book.{fields-of, two-bytes, two-bytes-each, the-format, header-bytes, line-table-due, length-due}
-use Rattle.scope.specs.Ram.{Instruction, Program, has}
-use Rattle.scope.specs.Flattening.{bytes-of-fields, as-line, bytes-of-program, flat-header, flat-book, flat-book-bytes, at-the-front-of}
+use Rattle.scope.specs.Ram as ram
+use Rattle.scope.specs.Ram.{Program, Target-within, has}
+use Rattle.scope.specs.Flattening.{most-flat-lines, bytes-of-fields, as-line, bytes-of-program, flat-header, flat-book, flat-book-bytes, at-the-front-of}
 use Rattle.scope.proofs.Ram.{has-below}
 use Rattle.scope.proofs.WrittenBook.{length-of-bytes}
+use Rattle.book.specs.declared.lines.Reg.{Reg}
+use Rattle.book.specs.declared.flat.FlatLine.{FlatLine}
+use Rattle.book.specs.declared.flat.Instruction.{Instruction}
+use Rattle.book.specs.declared.flat.Instruction.the-variants as instruction
+use Rattle.book.specs.Told.{instruction-told}
 use Rattle.book.specs.Written.{with-bytes, with-lines}
 
 -- four stores, one behind the other
@@ -45,6 +53,21 @@ unfolding flat-header two-bytes-each two-bytes length-due line-table-due
 header-written o₀ o₁ o₂ o₃ o₄ n h p q r s =
     rw (s, r, q, p, written-on o₀ _ _ 0 4 refl (omega arith), written-on o₀ _ _ 0 8 refl (omega arith), written-on o₀ _ _ 0 12 refl (omega arith))
 
+-- ---- a target fits its two bytes
+
+module _ (x : Instruction) (h : Target-within most-flat-lines (instruction-told x)) where
+  pub DEC-target-fits : {g : Reg} {u : FlatLine} → x ≡ instruction.Dec g u → Fits w16 (u .0)
+  unfolding Target-within instruction-told
+  DEC-target-fits e =
+      let within = rw e at h in
+      record { fits = omega (arith, within) }
+
+  pub GO-TO-target-fits : {u : FlatLine} → x ≡ instruction.GoTo u → Fits w16 (u .0)
+  unfolding Target-within instruction-told
+  GO-TO-target-fits e =
+      let within = rw e at h in
+      record { fits = omega (arith, within) }
+
 -- ---- its lines, one after another
 
 pub no-line-written : (out : List ℕ) (xs : Program) → out ≡ with-lines out 0 xs
@@ -57,7 +80,7 @@ unfolding bytes-of-program
 bytes-of-both [] ys = refl
 bytes-of-both (x ∷ xs) ys = rw (bytes-of-both xs ys) (sym (append-assoc (bytes-of-fields (fields-of (as-line x))) _ _))
 
-module _ (p : ℕ) (xs : Program) {x : Instruction} {rest : Program} (stands : drop p xs ≡ x ∷ rest) where
+module _ (p : ℕ) (xs : Program) {x : ram.Instruction} {rest : Program} (stands : drop p xs ≡ x ∷ rest) where
   below : p < length xs
   below = has-below (has stands)
 

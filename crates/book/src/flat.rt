@@ -5,6 +5,7 @@ ghost use mathlib.Core.List.{[], _∷_};
 ghost use lib.ListN.{length};
 ghost use Rattle.scope.specs.Book.{two-bytes-each, line-bytes, fields-of, fields-at};
 ghost use Rattle.scope.specs.Flattening.{most-flat-lines, bytes-of-fields, as-line, flat-header, flat-book-bytes};
+ghost use Rattle.scope.specs.Ram.{Target-within};
 ghost use Rattle.scope.specs.Running.{instruction-of};
 ghost use Rattle.book.specs.Told.{fields-told, instruction-told};
 ghost use Rattle.book.specs.Asked.{Line-within};
@@ -25,8 +26,8 @@ use super::numbers::low;
 // The header of a flat book, with the entry of its one routine.
 const FLAT_HEADER_BYTES: usize = HEADER_BYTES + ENTRY_BYTES;
 
-// A flat line number, kept apart from a routine's.
-pub struct FlatLine(pub u16);
+// A flat line number, kept apart from a routine's. It is wide, since the machine indexes by it at every step.
+pub struct FlatLine(pub usize);
 
 // A target is a flat line.
 pub enum Instruction {
@@ -69,6 +70,7 @@ pub fn put_header(out: &mut [u8], n: u16)
 
 // The table of kinds, for an instruction.
 fn fields_of(x: Instruction) -> Fields
+    requires { ⌜ Target-within most-flat-lines (instruction-told x) ⌝ }
     ensures { λ r. ⌜ fields-told r ≡ fields-of (as-line (instruction-told x)) ⌝ }
 {
     match x {
@@ -80,24 +82,25 @@ fn fields_of(x: Instruction) -> Fields
         Instruction::Dec(r, t) => Fields {
             kind: DEC,
             register: r.0,
-            operand: t.0,
+            operand: t.0 as u16,
         },
         Instruction::GoTo(t) => Fields {
             kind: GO_TO,
             register: 0,
-            operand: t.0,
+            operand: t.0 as u16,
         },
     }
 }
 
 // Writes flat line i.
 pub fn put_line(out: &mut [u8], i: FlatLine, x: Instruction)
+    requires { ⌜ Target-within most-flat-lines (instruction-told x) ⌝ }
     requires { ⌜ flat-book-bytes (i .0) + line-bytes ≤ length (now out) ⌝ }
     ensures { λ _. ⌜ now (out .exit) ≡ with-bytes (now (out .entry)) (flat-book-bytes (i .0)) (bytes-of-fields (fields-of (as-line (instruction-told x)))) ⌝ }
 {
     let f = fields_of(x);
     let operand = f.operand;
-    let at = FLAT_HEADER_BYTES + LINE_BYTES * i.0 as usize;
+    let at = FLAT_HEADER_BYTES + LINE_BYTES * i.0;
     put_four(out, at, f.kind, f.register, low(operand), high(operand));
 }
 
@@ -106,13 +109,15 @@ fn instruction_of(f: Fields) -> Instruction
     ensures { λ r. ⌜ instruction-told r ≡ instruction-of (fields-told f) ⌝ }
 {
     let kind = f.kind;
+    let operand = f.operand;
+    let target = operand as usize;
     if kind == INC {
         return Instruction::Inc(Reg(f.register));
     }
     if kind == DEC {
-        return Instruction::Dec(Reg(f.register), FlatLine(f.operand));
+        return Instruction::Dec(Reg(f.register), FlatLine(target));
     }
-    Instruction::GoTo(FlatLine(f.operand))
+    Instruction::GoTo(FlatLine(target))
 }
 
 // What stands at flat line i of a book with one routine. A target is read as a flat line here and nowhere else.

@@ -162,7 +162,13 @@ pub(crate) fn lines_verdict(b: &[u8], counts: Counts) -> Verdict
         let mut j: u16 = 0;
         while j < count {
             let place = first + j;
-            let verdict = line_verdict(fields_at(b, routines, place), r, count, place, &row);
+            let verdict = line_verdict(
+                fields_at(b, routines, place as usize),
+                r,
+                count,
+                place,
+                &row,
+            );
             match verdict {
                 Verdict::Refuse(x) => {
                     break 'book Verdict::Refuse(x);

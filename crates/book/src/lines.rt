@@ -44,11 +44,11 @@ pub(crate) struct Fields {
 }
 
 // What stands at line i, counted over the whole book.
-pub(crate) fn fields_at(b: &[u8], routines: u16, i: u16) -> Fields
+pub(crate) fn fields_at(b: &[u8], routines: u16, i: usize) -> Fields
     requires { ⌜ Line-within (now b) routines i ⌝ }
     ensures { λ r. ⌜ fields-told r ≡ fields-at (now (b .entry)) i ⌝ }
 {
-    let at = HEADER_BYTES + ENTRY_BYTES * routines as usize + LINE_BYTES * i as usize;
+    let at = HEADER_BYTES + ENTRY_BYTES * routines as usize + LINE_BYTES * i;
     let kind = b[at];
     let register = b[at + 1];
     let operand = two_byte(b, at + 2);
@@ -87,5 +87,6 @@ pub fn line_at(b: &[u8], counts: Counts, routine: u16, j: RoutineLine) -> Line
     ensures { λ r. ⌜ line-told r ≡ line-of (fields-in (now (b .entry)) routine (j .0)) ⌝ }
 {
     let first = table::first_line(b, routine);
-    line_of(fields_at(b, counts.routines, first + j.0))
+    let i = first + j.0;
+    line_of(fields_at(b, counts.routines, i as usize))
 }

@@ -1,8 +1,8 @@
 -- `flat::put_line` leaves the bytes of an instruction at flat line i.
 -- The four bytes that are put are its fields. Assumes nothing.
-use borrow.Author.Needs.{needs}
 use Rattle.book.proofs.flat.put_line.Statement.{statement}
 use Rattle.book.proofs.flat.put_line.Tie as tie
+use borrow.Author.Needs.{needs}
 use Rattle.scope.specs.Flattening.{flat-book-bytes, bytes-of-fields}
 use Rattle.scope.specs.Book.{two-bytes}
 use Rattle.book.specs.Told.{fields-told}
@@ -10,13 +10,12 @@ use Rattle.book.specs.Told.{fields-told}
 fields-of-requires : tie.Need-fields-of-requires
 fields-of-requires c κs = search needs
 
-cast-at : tie.Need-cast-at
-cast-at c = search needs
-
 mul-at : tie.Need-mul-at
+unfolding flat-book-bytes
 mul-at c = search needs
 
 add-at : tie.Need-add-at
+unfolding flat-book-bytes
 add-at c = search needs
 
 low-requires : tie.Need-low-requires
@@ -41,7 +40,6 @@ put-line-spec =
     tie.close
     (tie.spec
     fields-of-requires
-    cast-at
     mul-at
     add-at
     low-requires

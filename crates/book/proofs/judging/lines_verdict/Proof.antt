@@ -1,8 +1,8 @@
 -- `judging::lines_verdict` is the lines' verdict: the lowest bad line is the one named.
 -- The loops keep that all routines below r, and of routine r all lines below j, pass (`Passed-to`); R - r and the count less j fall. Assumes nothing.
-use borrow.Author.Needs.{needs}
 use Rattle.book.proofs.judging.lines_verdict.Statement.{statement}
 use Rattle.book.proofs.judging.lines_verdict.Tie as tie
+use borrow.Author.Needs.{needs}
 use Prim.Native.Nat.{_-_}
 use Rattle.scope.specs.Book.{line-verdict, routine-verdict}
 use Rattle.book.specs.Told.{verdict-told}
@@ -37,6 +37,9 @@ loop-holds c = search none-yet
 
 add-place : tie.Need-add-place Inv-loop μ-loop Inv-book μ-book
 add-place c = search place-fits
+
+cast-fields-at : tie.Need-cast-fields-at Inv-loop μ-loop Inv-book μ-book
+cast-fields-at c = search needs
 
 fields-at-requires : tie.Need-fields-at-requires Inv-loop μ-loop Inv-book μ-book
 fields-at-requires c κs = search line-within
@@ -89,6 +92,7 @@ lines-verdict-spec =
     limits-requires
     loop-holds
     add-place
+    cast-fields-at
     fields-at-requires
     line-verdict-requires
     enum-known-verdict

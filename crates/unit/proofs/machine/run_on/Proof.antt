@@ -1,0 +1,80 @@
+-- `machine::run_on` ends as the run of the book's program does, and leaves the registers so.
+-- At every turn the rest of the run ends as the whole does (`Keeps`); the budget less the steps falls. Assumes nothing.
+use borrow.Author.Needs.{needs}
+use Prim.Native.Nat.{_-_}
+use Rattle.unit.proofs.Runs.{Keeps, nothing-done, run-is-finished, run-is-out-of-steps, line-there, line-below-the-most, register-there, run-is-full, run-goes-on}
+use Rattle.unit.proofs.machine.run_on.Statement.{statement}
+use Rattle.unit.proofs.machine.run_on.Tie as tie
+
+abbrev Inv-loop : tie.InvT-loop
+Inv-loop flat regs₀ budget n line₀ steps₀ regs line steps = Keeps flat n budget line₀ regs₀ line steps regs
+
+abbrev μ-loop : tie.MeasureT-loop
+μ-loop flat regs₀ budget n line₀ steps₀ regs line steps = budget - steps
+
+cast-n : tie.Need-cast-n Inv-loop μ-loop
+cast-n c = search needs
+
+loop-holds : tie.Need-loop-holds Inv-loop μ-loop
+loop-holds c = search nothing-done
+
+same-length : tie.Need-same-length Inv-loop μ-loop
+same-length c = search needs
+
+returns : tie.Need-returns Inv-loop μ-loop
+returns c = search run-is-out-of-steps
+
+instruction-at-requires : tie.Need-instruction-at-requires Inv-loop μ-loop
+instruction-at-requires c κs = search line-there
+
+made-requires : tie.Need-made-requires Inv-loop μ-loop
+made-requires c κs = search (register-there, line-below-the-most)
+
+enum-known-next : tie.Need-enum-known-next Inv-loop μ-loop
+enum-known-next c = search needs
+
+same-length-2 : tie.Need-same-length-2 Inv-loop μ-loop
+same-length-2 c = search needs
+
+returns-2 : tie.Need-returns-2 Inv-loop μ-loop
+returns-2 c = search run-is-full
+
+enum-known-next-2 : tie.Need-enum-known-next-2 Inv-loop μ-loop
+enum-known-next-2 c = search needs
+
+add-steps : tie.Need-add-steps Inv-loop μ-loop
+add-steps c = search needs
+
+loop-less : tie.Need-loop-less Inv-loop μ-loop
+loop-less c = search needs
+
+loop-again : tie.Need-loop-again Inv-loop μ-loop
+loop-again c = search run-goes-on
+
+same-length-3 : tie.Need-same-length-3 Inv-loop μ-loop
+same-length-3 c = search needs
+
+returns-3 : tie.Need-returns-3 Inv-loop μ-loop
+returns-3 c = search run-is-finished
+
+pub run-on-spec : {M : Type 1} → statement M
+run-on-spec =
+    tie.close
+    (tie.spec
+    Inv-loop
+    μ-loop
+    cast-n
+    loop-holds
+    same-length
+    returns
+    instruction-at-requires
+    made-requires
+    enum-known-next
+    same-length-2
+    returns-2
+    enum-known-next-2
+    add-steps
+    loop-less
+    loop-again
+    same-length-3
+    returns-3)
