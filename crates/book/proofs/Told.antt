@@ -22,12 +22,12 @@ use Rattle.book.specs.declared.Read.the-variants as read
 use Rattle.book.specs.Told.{name-told, refusal-told, counts-told, check-told, line-told, read-told, instruction-told}
 
 -- what is got back tells apart
-apart : {A B : Type 0} (told : A → B) (back : B → A) → ((x : A) → back (told x) ≡ x) → (x y : A) → told x ≡ told y → x ≡ y
+pub apart : {A B : Type 0} (told : A → B) (back : B → A) → ((x : A) → back (told x) ≡ x) → (x y : A) → told x ≡ told y → x ≡ y
 apart told back again x y e = sym (again x) ∙ ap back e ∙ again y
 
 -- ---- refusals
 
-abbrev name-back : paper.Name → Name
+abbrev pub name-back : paper.Name → Name
 name-back paper.SHORT = name.Short
 name-back paper.FORMAT = name.Format
 name-back paper.COUNTS = name.Counts
@@ -70,10 +70,10 @@ name-again name.Line = refl
 name-again name.NotSteady = refl
 name-again name.Quote = refl
 
-abbrev refusal-back : paper.Refusal → Refusal
+abbrev pub refusal-back : paper.Refusal → Refusal
 refusal-back x = record { name = name-back (x .name); place = x .place }
 
-refusal-again : (x : Refusal) → refusal-back (refusal-told x) ≡ x
+pub refusal-again : (x : Refusal) → refusal-back (refusal-told x) ≡ x
 unfolding refusal-told
 refusal-again x = ap (λ (n : Name). record { name = n; place = x .place }) (name-again (x .name))
 

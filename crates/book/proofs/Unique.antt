@@ -13,6 +13,7 @@ use Rattle.book.proofs.check.Reads as check
 use Rattle.book.proofs.read_line.Reads as read-line
 use Rattle.book.proofs.refusals.Refusal.at.Reads as refusal-at
 use Rattle.book.proofs.refusals.Refusal.of.Reads as refusal-of
+use Rattle.book.proofs.refusals.number.Reads as number
 use Rattle.book.proofs.numbers.two_byte.Reads as two-byte
 use Rattle.book.proofs.numbers.low.Reads as low
 use Rattle.book.proofs.numbers.high.Reads as high
@@ -36,6 +37,9 @@ refusal-of-once κs a s s′ p q = refusals-apart _ _ (p ∙ sym q)
 
 pub refusal-at-once : {r r′ : Refusal} (κs : _) (a : _) (s s′ : _) → refusal-at.Learnt κs a r s → refusal-at.Learnt κs a r′ s′ → r ≡ r′
 refusal-at-once κs a s s′ p q = refusals-apart _ _ (p ∙ sym q)
+
+pub number-once : {r r′ : ℕ} (κs : _) (a : _) (s s′ : _) → number.Learnt κs a r s → number.Learnt κs a r′ s′ → r ≡ r′
+number-once κs a s s′ p q = p ∙ sym q
 
 pub two-byte-once : {r r′ : ℕ} (κs : _) (a : _) (s s′ : _) → two-byte.Learnt κs a r s → two-byte.Learnt κs a r′ s′ → r ≡ r′
 two-byte-once κs a s s′ p q = p ∙ sym q

@@ -2,3 +2,5 @@
 pub mod Steps
 pub mod Runs
 pub mod Answers
+pub mod Told
+pub mod Unique
