@@ -2,18 +2,18 @@
 -- Writing at the end of what was written is writing both at once (`written-on`). Assumes nothing.
 use mir.Syntax.{w16}
 use mir.Val.{Fits}
-use Prim.Native.Nat.{ℕ, _+_, _*_, _<_, _≤_}
+use Prim.Native.Nat.{ℕ, _+_, _*_, _≤_}
 use native.Mathlib.Omega.{arith}
 use native.Mathlib.Numerals.{add-one, add-two, add-three}
 use mathlib.Core.Path.{_≡_, refl, sym, _∙_, ap}
 use mathlib.Core.List.{List, [], _∷_, _++_, append-assoc, append-nil}
-use lib.ListN.{length, take, drop, getD, set, length-append, take-append-drop}
+use lib.ListN.{length, take, drop, getD, set, length-append, take-append-drop, drop-of-length-le}
 use lib.Seq.{length-take-le, take-all, take-suc, take-at, drop-append-add, drop-cons, drop-drop, sets-eq}
 use Rattle.scope.specs.Book.{fields-of, two-bytes, two-bytes-each, the-format, header-bytes, line-table-due, length-due}
 use Rattle.scope.specs.Ram as ram
-use Rattle.scope.specs.Ram.{Program, Target-within, has}
+use Rattle.scope.specs.Ram.{Program, Target-within}
 use Rattle.scope.specs.Flattening.{most-flat-lines, bytes-of-fields, as-line, bytes-of-program, flat-header, flat-book, flat-book-bytes, at-the-front-of}
-use Rattle.scope.proofs.Ram.{has-below}
+use Rattle.scope.proofs.Lists.{stands-below}
 use Rattle.scope.proofs.WrittenBook.{length-of-bytes}
 use Rattle.book.specs.declared.lines.Reg.{Reg}
 use Rattle.book.specs.declared.flat.FlatLine.{FlatLine}
@@ -27,6 +27,18 @@ pub four-stored : (out : List ℕ) (at a b c d : ℕ) → at + 4 ≤ length out
     → set (set (set (set out at a) (at + 1) b) (at + 2) c) (at + 3) d ≡ with-bytes out at (a ∷ b ∷ c ∷ d ∷ [])
 unfolding with-bytes
 four-stored out at a b c d h = rw (add-one at, add-two at, add-three at) (sets-eq (a ∷ b ∷ c ∷ d ∷ []) out at h)
+
+-- Where nothing is written, all is as it was; ..
+pub nothing-written : (out : List ℕ) (at : ℕ) → out ≡ with-bytes out at []
+unfolding with-bytes
+nothing-written out at =
+    let end : at + 0 ≡ at = omega arith in
+    sym (rw (append-nil (take at out), end) (take-append-drop at out))
+
+-- .. and where all is written, only that is there.
+pub all-written : (out bytes : List ℕ) → length bytes ≡ length out → with-bytes out 0 bytes ≡ bytes
+unfolding with-bytes
+all-written out bytes e = rw (drop-of-length-le out {i = 0 + length bytes} (omega arith)) (append-nil bytes)
 
 -- Writing at the end of what was written is writing both at once.
 written-on : (out xs ys : List ℕ) (at m : ℕ) → m ≡ at + length xs → m ≤ length out
@@ -68,43 +80,47 @@ module _ (x : Instruction) (h : Target-within most-flat-lines (instruction-told 
       let within = rw e at h in
       record { fits = omega (arith, within) }
 
--- ---- its lines, one after another
+-- ---- pieces, one after another
+
+-- A list of bytes that is made a piece for each member of a list.
+module _ {A : Type 0} (piece : A → List ℕ) (pieces : List A → List ℕ) (none : pieces [] ≡ [])
+    (one : (x : A) (xs : List A) → pieces (x ∷ xs) ≡ piece x ++ pieces xs) where
+  pieces-of-both : (xs ys : List A) → pieces (xs ++ ys) ≡ pieces xs ++ pieces ys
+  pieces-of-both [] ys = rw none
+  pieces-of-both (x ∷ xs) ys = rw (one x (xs ++ ys), one x xs, pieces-of-both xs ys) (sym (append-assoc (piece x) _ _))
+
+  module _ (p : ℕ) (xs : List A) {x : A} {rest : List A} (stands : drop p xs ≡ x ∷ rest) where
+    one-more-piece : pieces (take (p + 1) xs) ≡ pieces (take p xs) ++ piece x
+    one-more-piece =
+        let below = stands-below xs p stands in
+        let s = drop-cons xs p x below in
+        let same : getD xs p x ≡ x = cc in
+        ap (λ k. pieces (take k xs)) (add-one p)
+        ∙ ap pieces (take-suc xs p x below ∙ ap (λ y. take p xs ++ (y ∷ [])) same)
+        ∙ pieces-of-both (take p xs) (x ∷ [])
+        ∙ ap (λ bs. pieces (take p xs) ++ bs) (one x [] ∙ ap (λ bs. piece x ++ bs) none ∙ append-nil _)
+
+    -- The piece of member p behind those before it.
+    pub piece-written : (o out out′ : List ℕ) (at m : ℕ) → out ≡ with-bytes o at (pieces (take p xs)) → m ≡ at + length (pieces (take p xs))
+        → m ≤ length o → out′ ≡ with-bytes out m (piece x) → out′ ≡ with-bytes o at (pieces (take (p + 1) xs))
+    piece-written o out out′ at m so-far place room put =
+        put ∙ rw so-far (written-on o _ _ at m place room ∙ ap (with-bytes o at) (sym one-more-piece))
+
+-- ---- its lines
 
 pub no-line-written : (out : List ℕ) (xs : Program) → out ≡ with-lines out 0 xs
-unfolding with-lines with-bytes bytes-of-program flat-book-bytes
-no-line-written out xs = sym (rw (append-nil (take (flat-book-bytes 0) out)) (take-append-drop (flat-book-bytes 0) out))
+unfolding with-lines bytes-of-program
+no-line-written out xs = nothing-written out (flat-book-bytes 0)
 
--- the bytes of lines, one behind the other
-bytes-of-both : (xs ys : Program) → bytes-of-program (xs ++ ys) ≡ bytes-of-program xs ++ bytes-of-program ys
-unfolding bytes-of-program
-bytes-of-both [] ys = refl
-bytes-of-both (x ∷ xs) ys = rw (bytes-of-both xs ys) (sym (append-assoc (bytes-of-fields (fields-of (as-line x))) _ _))
-
-module _ (p : ℕ) (xs : Program) {x : ram.Instruction} {rest : Program} (stands : drop p xs ≡ x ∷ rest) where
-  below : p < length xs
-  below = has-below (has stands)
-
-  same : getD xs p x ≡ x
-  same =
-      let s = drop-cons xs p x below in
-      cc
-
-  one-more-line : bytes-of-program (take (p + 1) xs) ≡ bytes-of-program (take p xs) ++ bytes-of-fields (fields-of (as-line x))
-  unfolding bytes-of-program
-  one-more-line =
-      ap (λ k. bytes-of-program (take k xs)) (add-one p)
-      ∙ ap bytes-of-program (take-suc xs p x below ∙ ap (λ y. take p xs ++ (y ∷ [])) same)
-      ∙ bytes-of-both (take p xs) (x ∷ [])
-      ∙ ap (λ bs. bytes-of-program (take p xs) ++ bs) (append-nil _)
-
-  -- Line p behind the first p: so p + 1 are written.
-  pub line-written : (o out out′ : List ℕ) → out ≡ with-lines o p xs → flat-book-bytes p ≤ length o
-      → out′ ≡ with-bytes out (flat-book-bytes p) (bytes-of-fields (fields-of (as-line x))) → out′ ≡ with-lines o (p + 1) xs
-  unfolding with-lines flat-book-bytes
-  line-written o out out′ so-far room put =
-      let long = length-of-bytes (take p xs) in
-      let size = length-take-le p xs (omega (arith, below)) in
-      put ∙ rw so-far (written-on o _ _ 16 (16 + 4 * p) (omega (arith, long, size)) room ∙ ap (with-bytes o 16) (sym one-more-line))
+-- Line p behind the first p: so p + 1 are written.
+pub line-written : (p : ℕ) (xs : Program) {x : ram.Instruction} {rest : Program} → drop p xs ≡ x ∷ rest → (o out out′ : List ℕ)
+    → out ≡ with-lines o p xs → flat-book-bytes p ≤ length o
+    → out′ ≡ with-bytes out (flat-book-bytes p) (bytes-of-fields (fields-of (as-line x))) → out′ ≡ with-lines o (p + 1) xs
+unfolding with-lines flat-book-bytes bytes-of-program
+line-written p xs stands o out out′ so-far room put =
+    let long = length-of-bytes (take p xs) in
+    let size = length-take-le p xs (omega (arith, stands-below xs p stands)) in
+    piece-written (λ x. bytes-of-fields (fields-of (as-line x))) bytes-of-program refl (λ x xs. refl) p xs stands o out out′ 16 (16 + 4 * p) so-far (omega (arith, long, size)) room put
 
 -- The header and then all lines: so the flat book stands at the front of the output.
 pub book-written : (o out out′ : List ℕ) (n : ℕ) (xs : Program) → n ≡ length xs → flat-book-bytes n ≤ length o

@@ -1,15 +1,20 @@
 -- What stands in a list at a place: nothing in the empty list, behind a member the rest; and lists by the rule of their members.
 -- Each by the members of the list. Assumes nothing.
-use Prim.Native.Nat.{ℕ, zero, suc, _+_, _<_}
+use Prim.Native.Nat.{ℕ, zero, suc, _+_, _-_, _<_}
 use native.Mathlib.Omega.{arith}
 use mathlib.Core.Path.{_≡_, refl, sym, _∙_, ap}
 use mathlib.Core.List.{List, [], _∷_, map, nil≢cons}
-use lib.ListN.{length, getD, drop}
+use lib.ListN.{length, getD, drop, length-drop}
 use lib.Seq.{drop-nil, drop-drop, drop-cons}
 use Rattle.scope.specs.Words.{listed}
 
 pub nothing-stands : {A B : Type 0} {x : A} {xs : List A} (i : ℕ) → drop i [] ≡ x ∷ xs → B
 nothing-stands i e = absurd (nil≢cons (sym (drop-nil i) ∙ e))
+
+pub stands-below : {A : Type 0} {x : A} {xs : List A} (ls : List A) (i : ℕ) → drop i ls ≡ x ∷ xs → i < length ls
+stands-below {xs} ls i e =
+    let h : suc (length xs) ≡ length ls - i = rw e at (length-drop i ls) in
+    omega arith
 
 pub drop-tail : {A : Type 0} {x : A} {xs : List A} (ls : List A) (i : ℕ) → drop i ls ≡ x ∷ xs → drop (suc i) ls ≡ xs
 drop-tail ls i e =

@@ -10,6 +10,7 @@ use lib.ListN.{length, drop, length-drop, drop-of-length-le}
 use borrow.Author.Tests.{eq-eqb, ne-eqb}
 use Rattle.scope.specs.Words.{_is_, if}
 use Rattle.scope.specs.Ram.{Instruction, INC, DEC, GO-TO, Program, Has, has, Target-within, Targets-within, Configuration, Is-configuration, Final, All-registers-stay, Other-registers-stay, Goes-to, final, rule-1, rule-2, rule-3, rule-4}
+use Rattle.scope.proofs.Lists.{stands-below}
 
 -- ---- the instruction with a number
 
@@ -20,9 +21,7 @@ pub has-later : {P : Program} {p : ℕ} {I J : Instruction} → Has P p I → Ha
 has-later (has e) = has e
 
 pub has-below : {P : Program} {p : ℕ} {I : Instruction} → Has P p I → p < length P
-has-below {P} {p} (has {rest} e) =
-    let h : suc (length rest) ≡ length P - p = rw e at (length-drop p P) in
-    omega arith
+has-below {P} {p} (has e) = stands-below P p e
 
 pub has-not-final : {P : Program} {p : ℕ} {I : Instruction} → Has P p I → p ≡ length P → ⊥
 has-not-final h e = omega (arith, has-below h, e)

@@ -18,7 +18,7 @@ use book::header::Counts;
 use book::lines::Reg;
 
 // ours has 32 of 0 to 65,535
-pub(crate) const REGISTERS: usize = 32;
+pub const REGISTERS: usize = 32;
 
 const TOP: u16 = 65535;
 
