@@ -156,17 +156,21 @@ module _ (b : List ℕ) (c : Counts) (t : Taken-with b c) (one : c .routines ≤
             ∙ ap (run-on (flat-next (program-of b)) (budget - steps) steps line rs) (sym full)
             ∙ k .as-the-whole)
 
-        pub run-goes-on : {u : FlatLine} → m ≡ GoesTo u → Keeps b n budget line₀ rs₀ (u .0) (steps + 1) rs′
+        pub run-goes-on : {u : FlatLine} (done : ℕ) → m ≡ GoesTo u → done ≡ steps + 1 → Keeps b n budget line₀ rs₀ (u .0) done rs′
         unfolding next-told
-        run-goes-on {u} e =
+        run-goes-on {u} done e counted =
             let goes : flat-next (program-of b) line rs ≡ goes-to (u .0) rs′ = next-at-line ∙ ap (λ y. next-told y rs′) e in
-            let left : budget - steps ≡ suc (budget - (steps + 1)) = omega (arith, due, k .used) in
+            let one-more : done ≡ suc steps = counted ∙ add-one steps in
+            let left : budget - steps ≡ suc (budget - suc steps) = omega (arith, due, k .used) in
             record {
               within = omega (arith, step .line-again goes, length-program-of b, same-n);
               used = omega (arith, due, k .used);
               long = step .registers-again goes;
               as-the-whole =
-                  rw (add-one steps) (sym (one-step (flat-next (program-of b)) steps line rs (budget - steps) (budget - suc steps) (u .0) rs′ (rw (add-one steps) at left))
+                  rw one-more (sym (one-step (flat-next (program-of b)) steps line rs (budget - steps) (budget - suc steps) (u .0) rs′ left)
                   ∙ ap (run-on (flat-next (program-of b)) (budget - steps) steps line rs) (sym goes)
                   ∙ k .as-the-whole);
             }
+
+-- the three ways in which a run ends
+pub ruleset ends = (run-is-finished, run-is-out-of-steps, run-is-full)

@@ -54,19 +54,16 @@ module _ (x : Instruction) (l : ℕ) (rs : Registers) where
     unfolding next-told flat-step instruction-told takes-one-off takes-one-from did value
     DEC-jumps e none = rw (e, none) refl
 
-    pub DEC-goes-on : {u : FlatLine} → x ≡ Dec g u → getD rs (g .0) 0 ≢ 0
-        → record {
-          next = next-told (GoesTo (record { 0 = l + 1 })) (set rs (g .0) (getD rs (g .0) 0 - 1));
-          left = set rs (g .0) (getD rs (g .0) 0 - 1);
-        } ≡ did due rs
+    pub DEC-goes-on : {u : FlatLine} {v : ℕ} → x ≡ Dec g u → getD rs (g .0) 0 ≢ 0 → v ≡ getD rs (g .0) 0 - 1
+        → record { next = next-told (GoesTo (record { 0 = l + 1 })) (set rs (g .0) v); left = set rs (g .0) v } ≡ did due rs
     unfolding next-told flat-step instruction-told takes-one-off takes-one-from did value with-value
-    DEC-goes-on {u} e some = rw (e, add-one l) (one-off (getD rs (g .0) 0) some)
+    DEC-goes-on {u} e some f = rw (e, f, add-one l) (one-off (getD rs (g .0) 0) some)
       where
-        one-off : (v : ℕ) → v ≢ 0
-            → record { next = goes-to (suc l) (set rs (g .0) (v - 1)); left = set rs (g .0) (v - 1) } ≡ did (takes-one-from v (g .0) rs (suc l) (u .0)) rs
+        one-off : (w : ℕ) → w ≢ 0
+            → record { next = goes-to (suc l) (set rs (g .0) (w - 1)); left = set rs (g .0) (w - 1) } ≡ did (takes-one-from w (g .0) rs (suc l) (u .0)) rs
         one-off zero n = absurd (n refl)
-        one-off (suc v) n =
-            let back : suc v - 1 ≡ v = omega arith in
+        one-off (suc w) n =
+            let back : suc w - 1 ≡ w = omega arith in
             rw back refl
 
   pub GO-TO-jumps : {u : FlatLine} → x ≡ GoTo u → record { next = next-told (GoesTo u) rs; left = rs } ≡ did due rs

@@ -2,7 +2,7 @@
 -- At every turn the rest of the run ends as the whole does (`Keeps`); the budget less the steps falls. Assumes nothing.
 use borrow.Author.Needs.{needs}
 use Prim.Native.Nat.{_-_}
-use Rattle.unit.proofs.Runs.{Keeps, nothing-done, run-is-finished, run-is-out-of-steps, line-there, line-below-the-most, register-there, run-is-full, run-goes-on}
+use Rattle.unit.proofs.Runs.{Keeps, nothing-done, line-there, line-below-the-most, register-there, run-goes-on, ends}
 use Rattle.unit.proofs.machine.run_on.Statement.{statement}
 use Rattle.unit.proofs.machine.run_on.Tie as tie
 
@@ -22,7 +22,7 @@ same-length : tie.Need-same-length Inv-loop μ-loop
 same-length c = search needs
 
 returns : tie.Need-returns Inv-loop μ-loop
-returns c = search run-is-out-of-steps
+returns c = search ends
 
 instruction-at-requires : tie.Need-instruction-at-requires Inv-loop μ-loop
 instruction-at-requires c κs = search line-there
@@ -37,7 +37,7 @@ same-length-2 : tie.Need-same-length-2 Inv-loop μ-loop
 same-length-2 c = search needs
 
 returns-2 : tie.Need-returns-2 Inv-loop μ-loop
-returns-2 c = search run-is-full
+returns-2 c = search ends
 
 enum-known-next-2 : tie.Need-enum-known-next-2 Inv-loop μ-loop
 enum-known-next-2 c = search needs
@@ -55,7 +55,7 @@ same-length-3 : tie.Need-same-length-3 Inv-loop μ-loop
 same-length-3 c = search needs
 
 returns-3 : tie.Need-returns-3 Inv-loop μ-loop
-returns-3 c = search run-is-finished
+returns-3 c = search ends
 
 pub run-on-spec : {M : Type 1} → statement M
 run-on-spec =

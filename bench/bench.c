@@ -1,0 +1,173 @@
+/* Each exported call beside its plain C version, on the same inputs in the same run. Prints ratios: above 1 the exported call is faster. */
+#include "plain.h"
+
+#include <stdio.h>
+#include <string.h>
+#include <time.h>
+
+enum { INC = 1, DEC, GO_TO, CALL };
+enum { MOST_LINES = 4096, FRONT = 16, ROUNDS = 101 };
+
+static uint8_t book[12 + 4 * 32 + 4 * MOST_LINES];
+static size_t book_len;
+static unsigned lines_put;
+
+static void put_two(size_t at, unsigned n)
+{
+    book[at] = (uint8_t)n;
+    book[at + 1] = (uint8_t)(n >> 8);
+}
+
+static void line(unsigned kind, unsigned reg, unsigned operand)
+{
+    size_t at = FRONT + 4 * (size_t)lines_put++;
+    book[at] = (uint8_t)kind;
+    book[at + 1] = (uint8_t)reg;
+    put_two(at + 2, operand);
+}
+
+/* The header of a book of one routine, over the lines that were put. */
+static void close_book(void)
+{
+    book_len = FRONT + 4 * (size_t)lines_put;
+    unsigned header[8] = {1, 1, lines_put, 12, FRONT, (unsigned)book_len, 0, lines_put};
+    for (int i = 0; i < 8; i++)
+        put_two(2 * (size_t)i, header[i]);
+}
+
+/* -- the books -- */
+
+/* While R0 is above 0: R1 is drained into R2, and R2 back into R1. */
+static void nested_drains(void)
+{
+    line(DEC, 0, 7);
+    line(DEC, 1, 4);
+    line(INC, 2, 0);
+    line(GO_TO, 0, 1);
+    line(DEC, 2, 0);
+    line(INC, 1, 0);
+    line(GO_TO, 0, 4);
+}
+
+static void go_to_itself(void) { line(GO_TO, 0, 0); }
+
+static void straight(void)
+{
+    for (unsigned i = 0; i + 1 < MOST_LINES; i++)
+        line(i % 2 ? DEC : GO_TO, i % 2 ? i % 32 : 0, i + 1);
+    line(GO_TO, 0, 0);
+}
+
+/* Sample A's flat book: REPEAT 0 of INC 1. */
+static void repeat_of_inc(void)
+{
+    line(DEC, 0, 3);
+    line(INC, 1, 0);
+    line(GO_TO, 0, 0);
+}
+
+static void all_inc(void)
+{
+    for (unsigned i = 0; i < MOST_LINES; i++)
+        line(INC, i % 32, 0);
+}
+
+static void all_go_to_the_end(void)
+{
+    for (unsigned i = 0; i < MOST_LINES; i++)
+        line(GO_TO, 0, MOST_LINES);
+}
+
+static void all_dec_to_the_end(void)
+{
+    for (unsigned i = 0; i < MOST_LINES; i++)
+        line(DEC, i % 32, MOST_LINES);
+}
+
+static void all_mixed(void)
+{
+    uint32_t x = 1;
+    for (unsigned i = 0; i < MOST_LINES; i++) {
+        x = x * 1664525 + 1013904223;
+        unsigned kind = INC + (x >> 24) % 3, reg = (x >> 16) % 32, target = (x >> 8) % (MOST_LINES + 1);
+        line(kind, kind == GO_TO ? 0 : reg, kind == INC ? 0 : target);
+    }
+}
+
+static void last_line_bad(void)
+{
+    all_dec_to_the_end();
+    lines_put--;
+    line(CALL, 0, 0);
+}
+
+/* -- measuring -- */
+
+typedef struct zn_run_answer call(const uint8_t *, size_t, size_t, uint8_t *, size_t, uint64_t);
+
+static double seconds(void)
+{
+    struct timespec t;
+    clock_gettime(CLOCK_MONOTONIC, &t);
+    return (double)t.tv_sec + 1e-9 * (double)t.tv_nsec;
+}
+
+/* How long so many calls take, each from the same registers; the last answer and registers are left. */
+static double timed(call *f, uint64_t budget, int calls, struct zn_run_answer *a, uint8_t regs[64], const uint8_t given[64])
+{
+    double begin = seconds();
+    for (int i = 0; i < calls; i++) {
+        memcpy(regs, given, 64);
+        *a = f(book, book_len, 0, regs, 64, budget);
+    }
+    return seconds() - begin;
+}
+
+static int same(const struct zn_run_answer *a, const struct zn_run_answer *b)
+{
+    return a->refusal == b->refusal && a->place == b->place && a->outcome == b->outcome && a->reg == b->reg && a->steps == b->steps && a->line == b->line;
+}
+
+/* The best of some rounds of each, turn by turn. Ends with 1 where the two answer differently. */
+static int compare(const char *name, void (*make)(void), uint64_t budget, int calls)
+{
+    static const uint8_t given[64] = {0xFF, 0xFF, 100, 0};
+    struct zn_run_answer ours, plain;
+    uint8_t regs[64], plain_regs[64];
+    double best = 1e9, plain_best = 1e9;
+    lines_put = 0;
+    make();
+    close_book();
+    for (int round = 0; round < ROUNDS; round++) {
+        double t = timed(zn_run, budget, calls, &ours, regs, given);
+        double u = timed(plain_run, budget, calls, &plain, plain_regs, given);
+        best = t < best ? t : best;
+        plain_best = u < plain_best ? u : plain_best;
+    }
+    if (!same(&ours, &plain) || memcmp(regs, plain_regs, 64)) {
+        printf("%-46s THE TWO ANSWER DIFFERENTLY\n", name);
+        return 1;
+    }
+    if (ours.steps)
+        printf("%-46s %8.2f ns a step %8.2f ns %6.2f\n", name, best / (double)ours.steps / calls * 1e9, plain_best / (double)ours.steps / calls * 1e9, plain_best / best);
+    else
+        printf("%-46s %8.2f us a call %8.2f us %6.2f\n", name, best / calls * 1e6, plain_best / calls * 1e6, plain_best / best);
+    return 0;
+}
+
+int main(void)
+{
+    int wrong = 0;
+    printf("%-46s %18s %11s %6s\n", "zn_run", "ours", "plain C", "ratio");
+    wrong |= compare("(a) two nested draining loops", nested_drains, 2000000, 1);
+    wrong |= compare("(b) GO TO itself", go_to_itself, 2000000, 1);
+    wrong |= compare("(c) 4,095 lines to the next, then GO TO 0", straight, 2000000, 1);
+    wrong |= compare("sample A, REPEAT 0 of INC 1", repeat_of_inc, UINT64_MAX, 5);
+    wrong |= compare("sample A, budget 10", repeat_of_inc, 10, 5000);
+    wrong |= compare("check of 4,096 lines, INC", all_inc, 0, 200);
+    wrong |= compare("check of 4,096 lines, GO TO the end", all_go_to_the_end, 0, 200);
+    wrong |= compare("check of 4,096 lines, DEC to the end", all_dec_to_the_end, 0, 200);
+    wrong |= compare("check of 4,096 lines, all kinds mixed", all_mixed, 0, 200);
+    wrong |= compare("check of 4,096 lines, the last one bad", last_line_bad, 0, 200);
+    return wrong;
+}

@@ -1,0 +1,35 @@
+/* Zundernetz for C. Link with libpage.a (`rt staticlib page`), on x86-64 Linux.
+   docs/C-INTERFACE.md says every answer field by field. */
+#ifndef ZUNDERNETZ_H
+#define ZUNDERNETZ_H
+
+#include <stddef.h>
+#include <stdint.h>
+
+#ifdef __cplusplus
+extern "C" {
+#endif
+
+/* The outcome of a run. 0 where it is refused. */
+enum zn_outcome { ZN_FINISHED = 1, ZN_OUT_OF_STEPS = 2, ZN_FULL = 3 };
+
+/* What a run answers. Where it is refused, all but refusal and place are 0. */
+struct zn_run_answer {
+    uint16_t refusal; /* 0, or the number of the refusal */
+    uint16_t place;   /* the refusal's place */
+    uint16_t outcome; /* one of enum zn_outcome */
+    uint16_t reg;     /* the full register where the outcome is ZN_FULL, else 0 */
+    uint64_t steps;   /* the steps done */
+    size_t line;      /* the line reached; a run can go on from it */
+};
+
+/* Runs a flat book from a start line, with 32 registers and a budget of steps. The registers are 64 bytes, two for each, low byte
+   first; they hold what the steps left. A refusal writes nothing. What the caller owes: flat points to flat_len bytes and regs to
+   regs_len bytes, and the two do not overlap; where a length is 0 its pointer may be NULL. Any bytes and numbers may be given. */
+struct zn_run_answer zn_run(const uint8_t *flat, size_t flat_len, size_t start, uint8_t *regs, size_t regs_len, uint64_t budget);
+
+#ifdef __cplusplus
+}
+#endif
+
+#endif

@@ -1,0 +1,36 @@
+/* Document 01 in plain C, written from the paper alone and as literally as C allows. Nothing here is quick. */
+#ifndef PAPER_H
+#define PAPER_H
+
+#include <stddef.h>
+#include <stdint.h>
+
+/* The numbers of refusal. 0 is none. */
+enum {
+    SHORT = 1, FORMAT, COUNTS, OFFSETS, LENGTH, ROUTINE, KIND, REGISTER, TARGET, CALLEE,
+    DEPTH, NO_ROUTINE, TOO_LONG, NO_ROOM, NOT_FLAT, REGISTERS, LINE, NOT_STEADY, QUOTE
+};
+
+enum outcome { NONE, FINISHED, OUT_OF_STEPS, FULL };
+
+enum kind { INC = 1, DEC, GO_TO, CALL, REPEAT };
+
+struct refusal {
+    int number;
+    long place;
+};
+
+/* What a run answers, and the registers that it leaves. */
+struct ran {
+    struct refusal refusal;
+    enum outcome outcome;
+    int full;
+    uint64_t steps;
+    size_t line;
+};
+
+struct refusal paper_check(const uint8_t *book, size_t length);
+
+struct ran paper_run(const uint8_t *book, size_t length, size_t start, uint8_t *registers, size_t registers_length, uint64_t budget);
+
+#endif
