@@ -229,7 +229,8 @@ static void limits(void)
 
 /* -- refusals, each with its place and in its order -- */
 
-static void refusals_of_the_book(void)
+/* Routine 0: INC 0. Routine 1: CALL 0; GO TO 2. */
+static struct book two_routines(void)
 {
     struct book b = headed(2, 3);
     entry(&b, 0, 0, 1);
@@ -237,7 +238,12 @@ static void refusals_of_the_book(void)
     line(&b, 2, 0, INC, 0, 0);
     line(&b, 2, 1, CALL, 0, 0);
     line(&b, 2, 2, GO_TO, 0, 2);
-    struct book w;
+    return b;
+}
+
+static void refusals_of_the_front(void)
+{
+    struct book b = two_routines(), w;
     check(refuses(&b, 0, 0, 64, 1, 0) && refuses(&b, 11, 0, 64, 1, 0), "1 SHORT");
     w = b, put(&w, 0, 257);
     check(refuses(&w, w.length, 0, 64, 2, 0), "2 FORMAT");
@@ -262,6 +268,11 @@ static void refusals_of_the_book(void)
     check(refuses(&w, w.length, 0, 64, 6, 1), "6 ROUTINE, the last not to L");
     w = b, entry(&w, 0, 0, 65535), entry(&w, 1, 65535, 4);
     check(refuses(&w, w.length, 0, 64, 6, 1), "6 ROUTINE, a sum that would wrap in 16 bits");
+}
+
+static void refusals_of_lines(void)
+{
+    struct book b = two_routines(), w;
     w = b, line(&w, 2, 1, 0, 0, 0);
     check(refuses(&w, w.length, 0, 64, 7, 1), "7 KIND 0");
     w = b, line(&w, 2, 2, 6, 0, 0);
@@ -315,7 +326,8 @@ int main(void)
     page_size = sysconf(_SC_PAGESIZE);
     samples();
     limits();
-    refusals_of_the_book();
+    refusals_of_the_front();
+    refusals_of_lines();
     refusals_of_the_run();
     return report();
 }

@@ -6,20 +6,16 @@ use mathlib.Core.Path.{_≡_, sym, _∙_, ap}
 use mathlib.Core.List.{List, [], _∷_}
 use lib.ListN.{drop, drop-of-length-le}
 use Rattle.scope.specs.Book.{routines, lines, count, line-of, fields-at, fields-in, routine, routine-of, book-of}
-use Rattle.scope.specs.Ram.{Target-within}
 use Rattle.scope.specs.Steps.{register-count}
 use Rattle.scope.specs.Running.{instruction-of, program-of}
-use Rattle.scope.specs.Transitions.{Register-within}
 use Rattle.scope.proofs.TakenBook.{Line-fits, INC-fits, DEC-fits, GO-TO-fits, CALL-fits, REPEAT-fits, taken-book, taken-line-fits, routine-in-the-book, length-routine-of, stands-in-its-routine}
-use Rattle.scope.proofs.TakenProgram.{length-program-of, program-stands, instruction-within}
+use Rattle.scope.proofs.TakenProgram.{program-stands}
 use Rattle.book.specs.declared.header.Counts.{Counts}
 use Rattle.book.specs.declared.lines.Reg.{Reg}
 use Rattle.book.specs.declared.lines.RoutineLine.{RoutineLine}
 use Rattle.book.specs.declared.lines.Line.{Line}
 use Rattle.book.specs.declared.lines.Line.the-variants.{Inc, Dec, GoTo, Call, Repeat}
-use Rattle.book.specs.declared.flat.FlatLine.{FlatLine}
 use Rattle.book.specs.declared.flat.Instruction.{Instruction}
-use Rattle.book.specs.declared.flat.Instruction.the-variants as flat
 use Rattle.book.specs.Told.{line-told, instruction-told}
 use Rattle.book.specs.Asked.{Line-within, Taken-with}
 use Rattle.book.proofs.Scanned.{below-R}
@@ -94,60 +90,16 @@ routine-ends b c r t h =
 
 -- ---- a line of a flat book
 
--- A line of a flat book of n lines: its register is a register, its target a line or the end.
-unfoldable pub Fits-flat : (n : ℕ) → Instruction → Type 0
-Fits-flat n (flat.Inc g) = g .0 < register-count
-Fits-flat n (flat.Dec g u) = (g .0 < register-count) × (u .0 ≤ n)
-Fits-flat n (flat.GoTo u) = u .0 ≤ n
+module _ (b : List ℕ) (c : Counts) (t : Taken-with b c) (i : ℕ) (one : c .routines ≤ 1) (h : i < c .lines) where
+  pub flat-line-within : Line-within b 1 i
+  flat-line-within =
+      record {
+        routines-are = omega (arith, t .tabled .sized .counts .routines-are, t .tabled .sized .some-routine);
+        in-the-bytes = omega (arith, t .tabled .sized .size, t .tabled .sized .some-routine);
+      }
 
-told-fits-flat : (n : ℕ) (x : Instruction) → Register-within register-count (instruction-told x) → Target-within n (instruction-told x)
-    → Fits-flat n x
-unfolding Fits-flat instruction-told Register-within Target-within
-told-fits-flat n (flat.Inc g) h s = h
-told-fits-flat n (flat.Dec g u) h s = (h, s)
-told-fits-flat n (flat.GoTo u) h s = s
-
-module _ (b : List ℕ) (c : Counts) (t : Taken-with b c) where
-  -- Behind its last line it has none.
-  pub program-ends : drop (c .lines) (program-of b) ≡ []
-  program-ends = drop-of-length-le _ {i = c .lines} (omega (arith, length-program-of b, t .tabled .sized .counts .lines-are))
-
-  module _ (i : ℕ) (one : c .routines ≤ 1) (h : i < c .lines) where
-    in-the-book : i < lines b
-    in-the-book = rw (sym (t .tabled .sized .counts .lines-are)) h
-
-    one-routine : routines b ≡ 1
-    one-routine = omega (arith, t .tabled .sized .counts .routines-are, t .tabled .sized .some-routine)
-
-    pub flat-line-within : Line-within b 1 i
-    flat-line-within =
-        record {
-          routines-are = sym one-routine;
-          in-the-bytes = omega (arith, t .tabled .sized .size, t .tabled .sized .some-routine);
-        }
-
-    module _ (x : Instruction) (e : instruction-told x ≡ instruction-of (fields-at b i)) where
-      -- It stands at i in the program that the book says.
-      pub flat-line-stands : drop i (program-of b) ≡ instruction-told x ∷ drop (suc i) (program-of b)
-      flat-line-stands = program-stands b i in-the-book ∙ ap (λ y. y ∷ drop (suc i) (program-of b)) (sym e)
-
-      pub flat-line-fits : {y : Instruction} → x ≡ y → Fits-flat (c .lines) y
-      flat-line-fits k =
-          let w = instruction-within b (t .taken) one-routine i in-the-book in
-          rw (t .tabled .sized .counts .lines-are) (rw k at (told-fits-flat (lines b) x (rw e (w .0)) (rw e (w .1))))
-
-      pub flat-INC-register : {g : Reg} → x ≡ flat.Inc g → g .0 < register-count
-      unfolding Fits-flat
-      flat-INC-register k = flat-line-fits k
-
-      pub flat-DEC-register : {g : Reg} {u : FlatLine} → x ≡ flat.Dec g u → g .0 < register-count
-      unfolding Fits-flat
-      flat-DEC-register k = flat-line-fits k .0
-
-      pub flat-DEC-target : {g : Reg} {u : FlatLine} → x ≡ flat.Dec g u → u .0 ≤ c .lines
-      unfolding Fits-flat
-      flat-DEC-target k = flat-line-fits k .1
-
-      pub flat-GO-TO-target : {u : FlatLine} → x ≡ flat.GoTo u → u .0 ≤ c .lines
-      unfolding Fits-flat
-      flat-GO-TO-target k = flat-line-fits k
+  -- It stands at i in the program that the book says.
+  pub flat-line-stands : (x : Instruction) → instruction-told x ≡ instruction-of (fields-at b i)
+      → drop i (program-of b) ≡ instruction-told x ∷ drop (suc i) (program-of b)
+  flat-line-stands x e =
+      program-stands b i (rw (sym (t .tabled .sized .counts .lines-are)) h) ∙ ap (λ y. y ∷ drop (suc i) (program-of b)) (sym e)

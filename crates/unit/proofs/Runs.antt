@@ -23,7 +23,9 @@ use Rattle.book.specs.Asked.{Line-within, Taken-with}
 use Rattle.book.proofs.Fits.{flat-line-within, flat-line-stands}
 use Rattle.unit.specs.declared.machine.Next as machine
 use Rattle.unit.specs.declared.machine.Next.the-variants.{GoesTo, Full}
+use Rattle.unit.specs.declared.machine.Outcome.{Outcome}
 use Rattle.unit.specs.declared.machine.Outcome.the-variants as outcome
+use Rattle.unit.specs.declared.machine.Answer.{Answer}
 use Rattle.unit.specs.Told.{did, next-told, outcome-told, end-told}
 
 -- ---- the definitions' run, a turn at a time
@@ -105,22 +107,27 @@ module _ (b : List ℕ) (c : Counts) (t : Taken-with b c) (one : c .routines ≤
   abbrev whole : End ℕ
   whole = flat-run (program-of b) line₀ budget rs₀
 
-  pub run-is-finished : line ≡ n → end-told (record { outcome = outcome.Finished; steps = steps; line = record { 0 = line } }) rs ≡ whole
+  -- what is answered where the run ends here
+  abbrev answering : Outcome → Answer
+  answering o = record { outcome = o; steps = steps; line = record { 0 = line } }
+
+  pub run-is-finished : (a : Answer) → a ≡ answering outcome.Finished → line ≡ n → end-told a rs ≡ whole
   unfolding end-told outcome-told Final configuration
-  run-is-finished e =
+  run-is-finished a f e =
       let last = step .at-the-end-exactly .1 (e ∙ same-n ∙ sym (length-program-of b)) in
-      sym (ends-at-the-end (flat-next (program-of b)) steps line rs (budget - steps))
+      ap (λ y. end-told y rs) f
+      ∙ sym (ends-at-the-end (flat-next (program-of b)) steps line rs (budget - steps))
       ∙ ap (run-on (flat-next (program-of b)) (budget - steps) steps line rs) (sym last)
       ∙ k .as-the-whole
 
   module _ (on : line ≢ n) where
-    pub run-is-out-of-steps : steps ≡ budget
-        → end-told (record { outcome = outcome.OutOfSteps; steps = steps; line = record { 0 = line } }) rs ≡ whole
+    pub run-is-out-of-steps : (a : Answer) → a ≡ answering outcome.OutOfSteps → steps ≡ budget → end-told a rs ≡ whole
     unfolding end-told outcome-told Final configuration
-    run-is-out-of-steps e =
+    run-is-out-of-steps a f e =
         let none : budget - steps ≡ 0 = omega arith in
-        let not-at-n : flat-next (program-of b) line rs ≢ at-the-end = λ f. on (step .at-the-end-exactly .0 f ∙ length-program-of b ∙ sym same-n) in
-        sym (ends-without-budget (flat-next (program-of b)) steps line rs (flat-next (program-of b) line rs) not-at-n)
+        let not-at-n : flat-next (program-of b) line rs ≢ at-the-end = λ z. on (step .at-the-end-exactly .0 z ∙ length-program-of b ∙ sym same-n) in
+        ap (λ y. end-told y rs) f
+        ∙ sym (ends-without-budget (flat-next (program-of b)) steps line rs (flat-next (program-of b) line rs) not-at-n)
         ∙ (rw none at (k .as-the-whole))
 
     before-n : line < c .lines
@@ -145,14 +152,14 @@ module _ (b : List ℕ) (c : Counts) (t : Taken-with b c) (one : c .routines ≤
             ∙ only-the-first line (instruction-told x) _ rs
             ∙ next-is _ _ rs rs′ made
 
-        pub run-is-full : {g : Reg} → m ≡ Full g
-            → end-told (record { outcome = outcome.Full g; steps = steps; line = record { 0 = line } }) rs′ ≡ whole
+        pub run-is-full : {g : Reg} (a : Answer) → a ≡ answering (outcome.Full g) → m ≡ Full g → end-told a rs′ ≡ whole
         unfolding end-told outcome-told next-told
-        run-is-full {g} e =
+        run-is-full {g} a f e =
             let full : flat-next (program-of b) line rs ≡ before-full (g .0) = next-at-line ∙ ap (λ y. next-told y rs′) e in
             let stayed : rs′ ≡ rs = full-leaves-all _ _ rs rs′ made (ap (λ y. next-told y rs′) e) in
             rw stayed
-            (sym (ends-before-full (flat-next (program-of b)) steps line rs (budget - steps) (g .0) (λ z. due (omega (arith, z, k .used))))
+            (ap (λ y. end-told y rs) f
+            ∙ sym (ends-before-full (flat-next (program-of b)) steps line rs (budget - steps) (g .0) (λ z. due (omega (arith, z, k .used))))
             ∙ ap (run-on (flat-next (program-of b)) (budget - steps) steps line rs) (sym full)
             ∙ k .as-the-whole)
 

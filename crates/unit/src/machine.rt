@@ -80,6 +80,16 @@ fn made(x: Instruction, line: FlatLine, regs: &mut [u16]) -> Next
     }
 }
 
+fn ended(outcome: Outcome, steps: u64, line: FlatLine) -> Answer
+    ensures { λ r. ⌜ r ≡ record { outcome = outcome; steps = steps; line = line } ⌝ }
+{
+    Answer {
+        outcome: outcome,
+        steps: steps,
+        line: line,
+    }
+}
+
 // Before each step, in this order: at line n, FINISHED; budget used up, OUT OF STEPS; INC of a register at 65,535, FULL; else the step is
 // done and counted.
 pub(crate) fn run_on(
@@ -98,33 +108,22 @@ pub(crate) fn run_on(
     let n = counts.lines as usize;
     let mut line = start.0;
     let mut steps: u64 = 0;
-    while line != n {
-        if steps == budget {
-            return Answer {
-                outcome: Outcome::OutOfSteps,
-                steps: steps,
-                line: FlatLine(line),
-            };
+    loop {
+        if line == n {
+            return ended(Outcome::Finished, steps, FlatLine(line));
         }
-        let x = instruction_at(flat, FlatLine(line));
-        let next = made(x, FlatLine(line), regs);
+        if steps == budget {
+            return ended(Outcome::OutOfSteps, steps, FlatLine(line));
+        }
+        let next = made(instruction_at(flat, FlatLine(line)), FlatLine(line), regs);
         match next {
             Next::Full(r) => {
-                return Answer {
-                    outcome: Outcome::Full(r),
-                    steps: steps,
-                    line: FlatLine(line),
-                };
+                return ended(Outcome::Full(r), steps, FlatLine(line));
             }
             Next::GoesTo(target) => {
                 line = target.0;
                 steps += 1;
             }
         }
-    }
-    Answer {
-        outcome: Outcome::Finished,
-        steps: steps,
-        line: FlatLine(line),
     }
 }
