@@ -35,7 +35,7 @@ static void close_book(void)
         put_two(2 * (size_t)i, header[i]);
 }
 
-/* -- the books -- */
+/* -- the books. Each maker leaves a whole one. -- */
 
 /* While R0 is above 0: R1 is drained into R2, and R2 back into R1. */
 static void nested_drains(void)
@@ -47,15 +47,21 @@ static void nested_drains(void)
     line(DEC, 2, 0);
     line(INC, 1, 0);
     line(GO_TO, 0, 4);
+    close_book();
 }
 
-static void go_to_itself(void) { line(GO_TO, 0, 0); }
+static void go_to_itself(void)
+{
+    line(GO_TO, 0, 0);
+    close_book();
+}
 
 static void straight(void)
 {
     for (unsigned i = 0; i + 1 < MOST_LINES; i++)
         line(i % 2 ? DEC : GO_TO, i % 2 ? i % 32 : 0, i + 1);
     line(GO_TO, 0, 0);
+    close_book();
 }
 
 /* Sample A's flat book: REPEAT 0 of INC 1. */
@@ -64,24 +70,28 @@ static void repeat_of_inc(void)
     line(DEC, 0, 3);
     line(INC, 1, 0);
     line(GO_TO, 0, 0);
+    close_book();
 }
 
 static void all_inc(void)
 {
     for (unsigned i = 0; i < MOST_LINES; i++)
         line(INC, i % 32, 0);
+    close_book();
 }
 
 static void all_go_to_the_end(void)
 {
     for (unsigned i = 0; i < MOST_LINES; i++)
         line(GO_TO, 0, MOST_LINES);
+    close_book();
 }
 
 static void all_dec_to_the_end(void)
 {
     for (unsigned i = 0; i < MOST_LINES; i++)
         line(DEC, i % 32, MOST_LINES);
+    close_book();
 }
 
 static void all_mixed(void)
@@ -92,6 +102,7 @@ static void all_mixed(void)
         unsigned kind = INC + (x >> 24) % 3, reg = (x >> 16) % 32, target = (x >> 8) % (MOST_LINES + 1);
         line(kind, kind == GO_TO ? 0 : reg, kind == INC ? 0 : target);
     }
+    close_book();
 }
 
 static void last_line_bad(void)
@@ -99,6 +110,34 @@ static void last_line_bad(void)
     all_dec_to_the_end();
     lines_put--;
     line(CALL, 0, 0);
+    close_book();
+}
+
+/* A book of 32 routines of 128 lines, lines of all kinds mixed: it passes the check, and is then refused with 15. */
+static void thirty_two_routines(void)
+{
+    uint32_t x = 1;
+    size_t at = 12 + 4 * 32;
+    book_len = at + 4 * (size_t)MOST_LINES;
+    unsigned header[6] = {1, 32, MOST_LINES, 12, (unsigned)at, (unsigned)book_len};
+    for (int i = 0; i < 6; i++)
+        put_two(2 * (size_t)i, header[i]);
+    for (unsigned i = 0; i < MOST_LINES; i++, at += 4) {
+        unsigned routine = i / 128;
+        x = x * 1664525 + 1013904223;
+        unsigned kind = INC + (x >> 24) % (routine ? 5 : 3), reg = (x >> 16) % 32;
+        book[at] = (uint8_t)kind;
+        book[at + 1] = (uint8_t)(kind == GO_TO || kind == CALL ? 0 : reg);
+        put_two(at + 2, kind == INC ? 0 : kind <= GO_TO ? (x >> 8) % 129 : (x >> 8) % routine);
+        put_two(12 + 4 * (size_t)routine, 128 * routine);
+        put_two(12 + 4 * (size_t)routine + 2, 128);
+    }
+}
+
+static void wrong_format(void)
+{
+    all_inc();
+    put_two(0, 2);
 }
 
 /* -- measuring -- */
@@ -137,7 +176,6 @@ static int compare(const char *name, void (*make)(void), uint64_t budget, int ca
     double best = 1e9, plain_best = 1e9;
     lines_put = 0;
     make();
-    close_book();
     for (int round = 0; round < ROUNDS; round++) {
         double t = timed(zn_run, budget, calls, &ours, regs, given);
         double u = timed(plain_run, budget, calls, &plain, plain_regs, given);
@@ -151,7 +189,7 @@ static int compare(const char *name, void (*make)(void), uint64_t budget, int ca
     if (ours.steps)
         printf("%-46s %8.2f ns a step %8.2f ns %6.2f\n", name, best / (double)ours.steps / calls * 1e9, plain_best / (double)ours.steps / calls * 1e9, plain_best / best);
     else
-        printf("%-46s %8.2f us a call %8.2f us %6.2f\n", name, best / calls * 1e6, plain_best / calls * 1e6, plain_best / best);
+        printf("%-46s %8.3f us a call %8.3f us %6.2f\n", name, best / calls * 1e6, plain_best / calls * 1e6, plain_best / best);
     return 0;
 }
 
@@ -169,5 +207,7 @@ int main(void)
     wrong |= compare("check of 4,096 lines, DEC to the end", all_dec_to_the_end, 0, 200);
     wrong |= compare("check of 4,096 lines, all kinds mixed", all_mixed, 0, 200);
     wrong |= compare("check of 4,096 lines, the last one bad", last_line_bad, 0, 200);
+    wrong |= compare("check of 4,096 lines in 32 routines", thirty_two_routines, 0, 200);
+    wrong |= compare("check of a book in another format", wrong_format, 0, 20000);
     return wrong;
 }
