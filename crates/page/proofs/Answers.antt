@@ -1,29 +1,23 @@
 -- What C gets of a run: its answer field by field, and the bytes of the registers.
 -- Any other length than 64 is refused as a run is that is lent no registers; with 64 the page's run is a run of the registers that they say. Assumes nothing.
-use Prim.Native.Nat.{ℕ, _<_, _≤_}
-use mathlib.Core.Bool.{true}
+use Prim.Native.Nat.{ℕ}
+use mathlib.Core.Bool.{Bool, true, false}
 use mathlib.Core.Path.{_≡_, refl, sym, _∙_, ap}
 use mathlib.Core.Logic.{_≢_}
-use mathlib.Core.List.{List}
+use mathlib.Core.List.{List, []}
 use lib.ListN.{length}
-use Rattle.scope.specs.Words.{_is-not_}
-use Rattle.scope.specs.Refusals.{number, NOT-FLAT, REGISTERS, Verdict, refusal, refuse, accepted, Call, call-of, answer-of}
-use Rattle.scope.specs.Book.{two-bytes-each, check-answer}
+use Rattle.scope.specs.Words.{_is-not_, _above_, if}
+use Rattle.scope.specs.Refusals as paper
+use Rattle.scope.specs.Refusals.{number, NOT-FLAT, REGISTERS, Verdict, refusal, pass, refuse, accepted, Call, call-of, answer-of}
+use Rattle.scope.specs.Book.{two-bytes-each, routines, book-verdict}
 use Rattle.scope.specs.Steps.{register-count, Registers, End}
 use Rattle.scope.specs.Running as running
 use Rattle.scope.specs.Running.{program-of, flat-run, run-verdict, ran, run-call}
 use Rattle.scope.specs.Page.{registers-length, registers-of, outcome-number, full-register, run-fields, page-run-call, page-run}
-use Rattle.scope.proofs.Verdicts.{no-fault, itself-tells, is-not-tells, then-refuses, refused-exactly-when, accepted-only-where-passed, call-where-passed, refusal-writes-nothing}
+use Rattle.scope.proofs.Verdicts.{if-true, if-false, is-not-tells, then-goes-on, then-refuses, refused-exactly-when, accepted-only-where-passed, call-where-passed, refusal-writes-nothing}
 use Rattle.scope.proofs.Lists.{length-listed}
-use Rattle.scope.specs.GivenByCalls.{running-NOT-FLAT, running-REGISTERS}
-use Rattle.scope.proofs.GivenByCalls.{running-given-exactly-when}
-use Rattle.book.specs.declared.header.Counts.{Counts}
 use Rattle.book.specs.declared.refusals.Refusal.{Refusal}
-use Rattle.book.specs.declared.Checked.{Checked}
-use Rattle.book.specs.declared.Checked.the-variants as checked
-use Rattle.book.specs.Told.{name-told, refusal-told, check-told}
-use Rattle.book.specs.Asked.{Taken-with}
-use Rattle.book.proofs.Answers.{checked-refused}
+use Rattle.book.specs.Told.{name-told, refusal-told}
 use Rattle.unit.specs.declared.machine.Answer.{Answer}
 use Rattle.unit.specs.declared.Ran.{Ran}
 use Rattle.unit.specs.declared.Ran.the-variants.{Done, Refused}
@@ -44,24 +38,24 @@ module _ (r : Ran) where
   unfolding run-told run-fields ran-told answer-told
   fields-done o g e f h = rw (e, f, h) refl
 
+  pub fields-of-the-call : (c : Call running.Ran Registers) (rs′ : Registers) (a : RunAnswer) → record { answer = ran-told r; left = rs′ } ≡ c
+      → run-told a ≡ run-fields (ran-told r) → run-told a ≡ run-fields (c .answer)
+  fields-of-the-call c rs′ a told fields = fields ∙ ap (λ d. run-fields (d .answer)) told
+
 -- ---- any other length is 16
 
-module _ (b : List ℕ) where
-  pub book-refused-first : (k : Checked) {x : Refusal} → check-told k ≡ check-answer b → k ≡ checked.Refused x
-      → (start : ℕ) → run-verdict b true start ≡ refuse (refusal-told x)
-  unfolding run-verdict
-  book-refused-first k s e start = then-refuses _ (checked-refused b k s e)
-
-  module _ (c : Counts) (t : Taken-with b c) (x : Refusal) where
-    pub not-flat-first : refusal-told x ≡ refusal NOT-FLAT 0 → 1 < c .routines → (start : ℕ) → run-verdict b true start ≡ refuse (refusal-told x)
-    not-flat-first s h start =
-        running-given-exactly-when b start (no-fault (itself-tells true)) _ .1
-        (running-NOT-FLAT (t .taken) (rw (sym (t .tabled .sized .counts .routines-are)) h)) ∙ ap refuse (sym s)
-
-    pub then-not-32 : refusal-told x ≡ refusal REGISTERS 0 → c .routines ≤ 1 → (start : ℕ) → run-verdict b true start ≡ refuse (refusal-told x)
-    then-not-32 s h start =
-        running-given-exactly-when b start (no-fault (itself-tells true)) _ .1
-        (running-REGISTERS (t .taken) (rw (sym (t .tabled .sized .counts .routines-are)) h) refl) ∙ ap refuse (sym s)
+-- Lent other registers than 32, every run is refused.
+refused-somehow : (b : List ℕ) (start : ℕ) → (x : paper.Refusal) × (run-verdict b true start ≡ refuse x)
+unfolding run-verdict if
+refused-somehow b start = after-the-book (book-verdict b) refl
+  where
+    after-the-book : (v : Verdict) → book-verdict b ≡ v → (x : paper.Refusal) × (run-verdict b true start ≡ refuse x)
+    after-the-book (refuse x) e = (x, then-refuses _ e)
+    after-the-book pass e = then-flat (routines b above 1) refl
+      where
+        then-flat : (t : Bool) → (routines b above 1) ≡ t → (x : paper.Refusal) × (run-verdict b true start ≡ refuse x)
+        then-flat true h = (refusal NOT-FLAT 0, then-goes-on _ e ∙ if-true _ _ _ h)
+        then-flat false h = (refusal REGISTERS 0, then-goes-on _ e ∙ if-false _ _ _ h)
 
 module _ (b bytes : List ℕ) (start budget : ℕ) where
   -- what C gets where the page's run comes to this
@@ -70,12 +64,15 @@ module _ (b bytes : List ℕ) (start budget : ℕ) where
   unfolding page-run
   gets {c} a e f = (λ i. record { fields = f i; left = c .left }) ∙ ap (λ d. record { fields = run-fields (d .answer); left = d .left }) (sym e)
 
-  pub other-length : (a : RunAnswer) (x : Refusal) → length bytes ≢ registers-length → ((s : ℕ) → run-verdict b true s ≡ refuse (refusal-told x))
-      → run-told a ≡ run-fields (ran-told (Refused x)) → record { fields = run-told a; left = bytes } ≡ page-run b start bytes budget
-  unfolding page-run-call ran-told
-  other-length a x h v f =
+  pub other-length : (a : RunAnswer) → length bytes ≢ registers-length → run-told a ≡ run-fields (run-call b start [] budget .answer)
+      → record { fields = run-told a; left = bytes } ≡ page-run b start bytes budget
+  unfolding run-call page-run-call
+  other-length a h e =
+      let (x, v) = refused-somehow b start in
       let wrong = is-not-tells (length bytes) registers-length .when-true .1 h in
-      gets a (refusal-writes-nothing _ _ bytes (ap (λ t. run-verdict b t start) wrong ∙ v start)) f
+      gets a
+      (refusal-writes-nothing _ _ bytes (ap (λ t. run-verdict b t start) wrong ∙ v))
+      (e ∙ ap (λ c. run-fields (c .answer)) (refusal-writes-nothing _ _ [] v))
 
   module _ (h : length bytes ≡ registers-length) (rs : Registers) (said : rs ≡ registers-of bytes) (r : Ran) (rs′ : Registers)
       (told : record { answer = ran-told r; left = rs′ } ≡ run-call b start rs budget)

@@ -1,4 +1,4 @@
--- What each answer to C tells: the fields of document 01's answer, one for each field of the struct.
+-- What each answer to C tells: the fields that the definitions of the page's calls give (`Page` of `scope`), one for each of the struct's.
 -- Assumes nothing.
 use Rattle.scope.specs.Page.{Run-fields}
 use Rattle.page.specs.declared.RunAnswer.{RunAnswer}

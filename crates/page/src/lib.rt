@@ -2,18 +2,11 @@
 mod registers; // registers.rt: 32 registers as 64 bytes
 
 ghost use mathlib.Core.Path.{_≡_};
-ghost use mathlib.Core.Bool.{true};
-ghost use Prim.Native.Nat.{ℕ};
-ghost use Rattle.scope.specs.Refusals.{refuse};
-ghost use Rattle.scope.specs.Running.{run-verdict};
+ghost use mathlib.Core.List.{[]};
+ghost use Rattle.scope.specs.Running.{run-call};
 ghost use Rattle.scope.specs.Page.{outcome-number, full-register, run-fields, page-run};
-ghost use Rattle.book.specs.Told.{refusal-told};
 ghost use Rattle.unit.specs.Told.{outcome-told, ran-told};
 ghost use Rattle.page.specs.Told.{run-told};
-use book::Checked;
-use book::check;
-use book::refusals::Name;
-use book::refusals::Refusal;
 use book::refusals::number;
 use registers::REGISTERS_BYTES;
 use registers::put_registers;
@@ -84,21 +77,12 @@ fn fields_of(ran: Ran) -> RunAnswer
     }
 }
 
-// Any other length than 64 is 16, in its place in the order: after 1 to 10 and 15, and before 17, so for every start line.
-fn not_32_registers(flat: &[u8]) -> Refusal
-    ensures { λ r. ⌜ ((start : ℕ) → run-verdict (now (flat .entry)) true start ≡ refuse (refusal-told r)) ⌝ }
+// Any other length than 64 is 16, in its place in the order: so a run that is lent no registers answers it.
+fn run_without(flat: &[u8], start: usize, budget: u64) -> RunAnswer
+    ensures { λ r. ⌜ run-told r ≡ run-fields (run-call (now (flat .entry)) start [] budget .answer) ⌝ }
 {
-    let checked = check(flat);
-    match checked {
-        Checked::Refused(x) => x,
-        Checked::Taken(counts) => {
-            let routines = counts.routines;
-            if 1 < routines {
-                return Refusal::of(Name::NotFlat);
-            }
-            Refusal::of(Name::Registers)
-        }
-    }
+    let mut none = [0u16; 0];
+    fields_of(run(flat, start, &mut none, budget))
 }
 
 // Runs a flat book from a start line. The registers are 64 bytes, two for each, low byte first.
@@ -107,7 +91,7 @@ pub extern "C" fn zn_run(flat: &[u8], start: usize, regs: &mut [u8], budget: u64
     ensures { λ r. ⌜ record { fields = run-told r; left = now (regs .exit) } ≡ page-run (now (flat .entry)) start (now (regs .entry)) budget ⌝ }
 {
     if regs.len() != REGISTERS_BYTES {
-        return fields_of(Ran::Refused(not_32_registers(flat)));
+        return run_without(flat, start, budget);
     }
     let mut own = registers_of(regs);
     let ran = run(flat, start, &mut own, budget);

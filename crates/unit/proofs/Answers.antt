@@ -1,18 +1,21 @@
 -- The answers of a run and of a bench step: one law for each way out.
 -- A test that finds its fault gives the call's refusal; where all pass, the call answers how the run of the book's program ends. Assumes nothing.
 use Prim.Native.Nat.{ℕ, _<_, _≤_}
-use mathlib.Core.Path.{_≡_, sym, _∙_, ap}
+use mathlib.Core.Path.{_≡_, refl, sym, _∙_, ap}
 use mathlib.Core.Logic.{_≢_}
 use mathlib.Core.List.{List}
 use lib.ListN.{length}
 use Rattle.scope.specs.Words.{_is-not_, _above_, if}
+use Rattle.scope.specs.Refusals as paper
 use Rattle.scope.specs.Refusals.{NOT-FLAT, REGISTERS, LINE, refuse, refusal, accepted, call-of, answer-of, _and-then_}
 use Rattle.scope.specs.Book.{routines, lines, book-verdict, check-answer}
 use Rattle.scope.specs.Steps.{register-count, Registers, End}
 use Rattle.scope.specs.Running.{program-of, flat-run, run-verdict, ran, run-call, state, bench-verdict, bench-call}
-use Rattle.scope.specs.GivenByCalls.{running-NOT-FLAT, running-REGISTERS, running-LINE}
-use Rattle.scope.proofs.Verdicts.{no-fault, is-not-tells, goes-on, then-refuses, accepted-only-where-passed, refused-exactly-when, call-where-passed, refusal-writes-nothing}
-use Rattle.scope.proofs.GivenByCalls.{running-passes, running-with-registers}
+use Rattle.scope.specs.GivenByCalls.{Given-running, running-the-book, running-NOT-FLAT, running-REGISTERS, running-LINE}
+use Rattle.scope.proofs.Verdicts.{no-fault, is-not-tells, goes-on, accepted-only-where-passed, refused-exactly-when, call-where-passed, refusal-writes-nothing}
+use Rattle.scope.proofs.GivenExactlyWhen.{given-exactly-when}
+use Rattle.scope.proofs.GivenByCalls.{running-passes}
+use Rattle.scope.proofs.Answers.{run-refused-exactly}
 use Rattle.book.specs.declared.header.Counts.{Counts}
 use Rattle.book.specs.declared.refusals.Refusal.{Refusal}
 use Rattle.book.specs.declared.Checked.{Checked}
@@ -29,21 +32,19 @@ use Rattle.unit.specs.Told.{end-told, answer-told, ran-told, state-told}
 -- ---- running
 
 module _ (b : List ℕ) (start budget : ℕ) (rs : Registers) where
-  refused-with : (x : Refusal) → run-verdict b (length rs is-not register-count) start ≡ refuse (refusal-told x)
+  refused-with : (x : Refusal) {y : paper.Refusal} → refusal-told x ≡ y → Given-running b (length rs ≢ register-count) start y
       → record { answer = ran-told (Refused x); left = rs } ≡ run-call b start rs budget
-  unfolding ran-told run-call
-  refused-with x e = sym (refusal-writes-nothing _ _ rs e)
+  unfolding ran-told
+  refused-with x s g = rw s (sym (run-refused-exactly b start rs budget _ .1 g))
 
   pub book-refused : (k : Checked) {x : Refusal} → check-told k ≡ check-answer b → k ≡ checked.Refused x
       → record { answer = ran-told (Refused x); left = rs } ≡ run-call b start rs budget
-  unfolding run-verdict
-  book-refused k {x} s e = refused-with x (then-refuses _ (checked-refused b k s e))
+  book-refused k {x} s e = refused-with x refl (running-the-book (given-exactly-when b _ .0 (checked-refused b k s e)))
 
   module _ (c : Counts) (t : Taken-with b c) where
     pub not-flat : (x : Refusal) → refusal-told x ≡ refusal NOT-FLAT 0 → 1 < c .routines
         → record { answer = ran-told (Refused x); left = rs } ≡ run-call b start rs budget
-    not-flat x s h =
-        refused-with x (running-with-registers b rs start _ .1 (running-NOT-FLAT (t .taken) (rw (sym (t .tabled .sized .counts .routines-are)) h)) ∙ ap refuse (sym s))
+    not-flat x s h = refused-with x s (running-NOT-FLAT (t .taken) (rw (sym (t .tabled .sized .counts .routines-are)) h))
 
     module _ (one : c .routines ≤ 1) where
       flat : routines b ≤ 1
@@ -51,8 +52,7 @@ module _ (b : List ℕ) (start budget : ℕ) (rs : Registers) where
 
       pub not-32-registers : (x : Refusal) → refusal-told x ≡ refusal REGISTERS 0 → length rs ≢ register-count
           → record { answer = ran-told (Refused x); left = rs } ≡ run-call b start rs budget
-      not-32-registers x s h =
-          refused-with x (running-with-registers b rs start _ .1 (running-REGISTERS (t .taken) flat h) ∙ ap refuse (sym s))
+      not-32-registers x s h = refused-with x s (running-REGISTERS (t .taken) flat h)
 
       module _ (long : length rs ≡ register-count) (n : ℕ) (size : n ≡ c .lines) where
         same-n : n ≡ lines b
@@ -60,8 +60,7 @@ module _ (b : List ℕ) (start budget : ℕ) (rs : Registers) where
 
         pub line-past-the-end : (x : Refusal) → refusal-told x ≡ refusal LINE 0 → n < start
             → record { answer = ran-told (Refused x); left = rs } ≡ run-call b start rs budget
-        line-past-the-end x s h =
-            refused-with x (running-with-registers b rs start _ .1 (running-LINE (t .taken) flat (λ w. w long) (rw (sym same-n) h)) ∙ ap refuse (sym s))
+        line-past-the-end x s h = refused-with x s (running-LINE (t .taken) flat (λ w. w long) (rw (sym same-n) h))
 
         pub run-answers : (a : Answer) (rs′ : Registers) → start ≤ n → end-told a rs′ ≡ flat-run (program-of b) start budget rs
             → record { answer = ran-told (Done a); left = rs′ } ≡ run-call b start rs budget

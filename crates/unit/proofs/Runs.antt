@@ -52,7 +52,7 @@ module _ {P : Type 0} (next : P → Registers → Next P) (s : ℕ) (p : P) (rs 
   unfolding run-on
   one-step left left′ p′ rs′ e = rw e refl
 
--- ---- what `made` says
+-- ---- what `does` says
 
 did-next : (n : Next ℕ) (rs : Registers) → did n rs .next ≡ n
 unfolding did
@@ -144,19 +144,19 @@ module _ (b : List ℕ) (c : Counts) (t : Taken-with b c) (one : c .routines ≤
       register-there = rw (k .long, reads) (instruction-within b (t .taken) flat line (rw (sym same-n) (omega arith)) .0)
 
       module _ (due : steps ≢ budget) (m : machine.Next) (rs′ : Registers)
-          (made : record { next = next-told m rs′; left = rs′ } ≡ did (flat-step line (instruction-told x ∷ []) rs) rs) where
+          (does : record { next = next-told m rs′; left = rs′ } ≡ did (flat-step line (instruction-told x ∷ []) rs) rs) where
         next-at-line : flat-next (program-of b) line rs ≡ next-told m rs′
         unfolding flat-next
         next-at-line =
             ap (λ xs. flat-step line xs rs) (flat-line-stands b c t line one before-n x reads)
             ∙ only-the-first line (instruction-told x) _ rs
-            ∙ next-is _ _ rs rs′ made
+            ∙ next-is _ _ rs rs′ does
 
         pub run-is-full : {g : Reg} (a : Answer) → a ≡ answering (outcome.Full g) → m ≡ Full g → end-told a rs′ ≡ whole
         unfolding end-told outcome-told next-told
         run-is-full {g} a f e =
             let full : flat-next (program-of b) line rs ≡ before-full (g .0) = next-at-line ∙ ap (λ y. next-told y rs′) e in
-            let stayed : rs′ ≡ rs = full-leaves-all _ _ rs rs′ made (ap (λ y. next-told y rs′) e) in
+            let stayed : rs′ ≡ rs = full-leaves-all _ _ rs rs′ does (ap (λ y. next-told y rs′) e) in
             rw stayed
             (ap (λ y. end-told y rs) f
             ∙ sym (ends-before-full (flat-next (program-of b)) steps line rs (budget - steps) (g .0) (λ z. due (omega (arith, z, k .used))))

@@ -1,5 +1,5 @@
--- What each answer of the unit tells, in document 01's names and values: one clause a case. Refusals are told as `book` tells them.
--- Assumes nothing.
+-- What each answer of the unit tells, in document 01's names and values: one clause a case. Refusals are told as `book` tells them. And
+-- what the machine's step comes to, with the registers that it leaves. Assumes nothing.
 use Prim.Native.Nat.{ℕ}
 use Rattle.scope.specs.Refusals.{Answer, refused, accepted}
 use Rattle.scope.specs.Steps as paper

@@ -51,7 +51,7 @@ fn raised(v: u16) -> u16
 }
 
 // INC adds one and goes on. DEC on a register above 0 takes one off and goes on; on 0 it goes to the target. GO TO goes to the target.
-fn made(x: Instruction, line: FlatLine, regs: &mut [u16]) -> Next
+fn does(x: Instruction, line: FlatLine, regs: &mut [u16]) -> Next
     requires { ⌜ Register-within (length (now regs)) (instruction-told x) ⌝ }
     requires { ⌜ line .0 < most-lines ⌝ }
     ensures { λ r. ⌜ record { next = next-told r (now (regs .exit)); left = now (regs .exit) } ≡ did (flat-step (line .0) (instruction-told x ∷ []) (now (regs .entry))) (now (regs .entry)) ⌝ }
@@ -80,6 +80,7 @@ fn made(x: Instruction, line: FlatLine, regs: &mut [u16]) -> Next
     }
 }
 
+// How a run ends: so, after these steps, at this line.
 fn ended(outcome: Outcome, steps: u64, line: FlatLine) -> Answer
     ensures { λ r. ⌜ r ≡ record { outcome = outcome; steps = steps; line = line } ⌝ }
 {
@@ -106,22 +107,22 @@ pub(crate) fn run_on(
     ensures { λ r. ⌜ end-told r (now (regs .exit)) ≡ flat-run (program-of (now (flat .entry))) (start .0) budget (now (regs .entry)) ⌝ }
 {
     let n = counts.lines as usize;
-    let mut line = start.0;
+    let mut line = start;
     let mut steps: u64 = 0;
     loop {
-        if line == n {
-            return ended(Outcome::Finished, steps, FlatLine(line));
+        if line.0 == n {
+            return ended(Outcome::Finished, steps, line);
         }
         if steps == budget {
-            return ended(Outcome::OutOfSteps, steps, FlatLine(line));
+            return ended(Outcome::OutOfSteps, steps, line);
         }
-        let next = made(instruction_at(flat, FlatLine(line)), FlatLine(line), regs);
+        let next = does(instruction_at(flat, line), line, regs);
         match next {
             Next::Full(r) => {
-                return ended(Outcome::Full(r), steps, FlatLine(line));
+                return ended(Outcome::Full(r), steps, line);
             }
             Next::GoesTo(target) => {
-                line = target.0;
+                line = target;
                 steps += 1;
             }
         }

@@ -1,15 +1,12 @@
 -- `zn_run` answers C as document 01's page says, and leaves the registers' bytes so.
--- Another length is refused for every start line; with 64 bytes the run is one of the registers that they say. Assumes nothing.
+-- Another length is refused as a run without registers is; with 64 bytes the run is one of the registers that they say. Assumes nothing.
 use borrow.Author.Needs.{needs}
 use Rattle.page.proofs.Answers.{other-length, run-is-refused, run-is-done}
 use Rattle.page.proofs.zn_run.Statement.{statement}
 use Rattle.page.proofs.zn_run.Tie as tie
 
-not-32-registers-requires : tie.Need-not-32-registers-requires
-not-32-registers-requires c κs = search needs
-
-fields-of-requires : tie.Need-fields-of-requires
-fields-of-requires c κs = search needs
+run-without-requires : tie.Need-run-without-requires
+run-without-requires c κs = search needs
 
 returns : tie.Need-returns
 returns c = search other-length
@@ -23,8 +20,8 @@ slice-aggregate-run c = search needs
 run-requires : tie.Need-run-requires
 run-requires c κs = search needs
 
-fields-of-requires-2 : tie.Need-fields-of-requires-2
-fields-of-requires-2 c κs = search needs
+fields-of-requires : tie.Need-fields-of-requires
+fields-of-requires c κs = search needs
 
 enum-known-ran : tie.Need-enum-known-ran
 enum-known-ran c = search needs
@@ -54,13 +51,12 @@ pub zn-run-spec : {M : Type 1} → statement M
 zn-run-spec =
     tie.close
     (tie.spec
-    not-32-registers-requires
-    fields-of-requires
+    run-without-requires
     returns
     registers-of-requires
     slice-aggregate-run
     run-requires
-    fields-of-requires-2
+    fields-of-requires
     enum-known-ran
     enum-known-ran-2
     slice-aggregate-put-registers

@@ -7,7 +7,7 @@ use Rattle.unit.proofs.machine.run_on.Statement.{statement}
 use Rattle.unit.proofs.machine.run_on.Tie as tie
 
 abbrev Inv-loop : tie.InvT-loop
-Inv-loop flat regs₀ budget n line₀ steps₀ regs line steps = Keeps flat n budget line₀ regs₀ line steps regs
+Inv-loop flat regs₀ budget n line₀ steps₀ regs line steps = Keeps flat n budget (line₀ .0) regs₀ (line .0) steps regs
 
 abbrev μ-loop : tie.MeasureT-loop
 μ-loop flat regs₀ budget n line₀ steps₀ regs line steps = budget - steps
@@ -39,8 +39,8 @@ returns-2 c = search ends
 instruction-at-requires : tie.Need-instruction-at-requires Inv-loop μ-loop
 instruction-at-requires c κs = search line-there
 
-made-requires : tie.Need-made-requires Inv-loop μ-loop
-made-requires c κs = search (register-there, line-below-the-most)
+does-requires : tie.Need-does-requires Inv-loop μ-loop
+does-requires c κs = search (register-there, line-below-the-most)
 
 enum-known-next : tie.Need-enum-known-next Inv-loop μ-loop
 enum-known-next c = search needs
@@ -81,7 +81,7 @@ run-on-spec =
     same-length-2
     returns-2
     instruction-at-requires
-    made-requires
+    does-requires
     enum-known-next
     ended-requires-3
     same-length-3

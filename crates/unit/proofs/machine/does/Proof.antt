@@ -1,7 +1,7 @@
--- `machine::made` does what the definitions' step does before one instruction, and leaves the registers so.
+-- `machine::does` does what the definitions' step does before one instruction, and leaves the registers so.
 -- One law for each way out (`Steps`); the registers named are there. Assumes nothing.
-use Rattle.unit.proofs.machine.made.Statement.{statement}
-use Rattle.unit.proofs.machine.made.Tie as tie
+use Rattle.unit.proofs.machine.does.Statement.{statement}
+use Rattle.unit.proofs.machine.does.Tie as tie
 use borrow.Author.Needs.{needs}
 use Rattle.unit.proofs.Steps.{INC-within, DEC-within, INC-stops, INC-goes-on, DEC-jumps, DEC-goes-on, GO-TO-jumps}
 
@@ -74,8 +74,8 @@ returns-4 c = search DEC-goes-on
 returns-5 : tie.Need-returns-5
 returns-5 c = search GO-TO-jumps
 
-pub made-spec : {M : Type 1} → statement M
-made-spec =
+pub does-spec : {M : Type 1} → statement M
+does-spec =
     tie.close
     (tie.spec
     add-on
