@@ -2,7 +2,7 @@
 #include "../include/zundernetz.h"
 #include "report.h"
 
-#include <stdio.h>
+#include <stdlib.h>
 #include <string.h>
 #include <sys/mman.h>
 #include <unistd.h>
@@ -20,45 +20,48 @@ enum { INC = 1, DEC, GO_TO, CALL, REPEAT, REGISTERS = 32, REGISTERS_BYTES = 64 }
 
 /* -- memory with an edge: what is put there ends where no byte can be touched -- */
 
-static long page_size;
+enum { ROOM = 21 * 4096 };
 
-static uint8_t *new_pages(size_t bytes)
+struct pages {
+    uint8_t *edge;
+};
+
+static struct pages of_the_book, of_the_registers;
+
+static void must(int right)
 {
-    size_t whole = (bytes + (size_t)page_size - 1) / (size_t)page_size * (size_t)page_size;
-    uint8_t *at = mmap(0, whole + (size_t)page_size, PROT_READ | PROT_WRITE, MAP_PRIVATE | MAP_ANONYMOUS, -1, 0);
-    mprotect(at + whole, (size_t)page_size, PROT_NONE);
-    return at + whole;
+    if (!right)
+        abort();
 }
 
-static uint8_t *edge_of_book, *edge_of_registers;
-
-/* A copy of a book that can be read and not written, up to the edge. */
-static const uint8_t *at_the_edge(const uint8_t *bytes, size_t n)
+/* Whether the pages in front of the edge can be written. */
+static void allow(struct pages p, int writing)
 {
-    static size_t room = 20480;
-    if (!edge_of_book)
-        edge_of_book = new_pages(room);
-    mprotect(edge_of_book - room, room, PROT_READ | PROT_WRITE);
-    memcpy(edge_of_book - n, bytes, n);
-    mprotect(edge_of_book - room, room, PROT_READ);
-    return edge_of_book - n;
+    must(mprotect(p.edge - ROOM, ROOM, writing ? PROT_READ | PROT_WRITE : PROT_READ) == 0);
 }
 
-static uint8_t *registers_at_the_edge(const uint8_t *bytes, size_t n)
+static struct pages new_pages(void)
 {
-    if (!edge_of_registers)
-        edge_of_registers = new_pages((size_t)page_size);
-    mprotect(edge_of_registers - page_size, (size_t)page_size, PROT_READ | PROT_WRITE);
-    memcpy(edge_of_registers - n, bytes, n);
-    return edge_of_registers - n;
+    uint8_t *at = mmap(0, ROOM + 4096, PROT_READ | PROT_WRITE, MAP_PRIVATE | MAP_ANONYMOUS, -1, 0);
+    struct pages p = {at + ROOM};
+    must(at != MAP_FAILED && sysconf(_SC_PAGESIZE) == 4096);
+    must(mprotect(p.edge, 4096, PROT_NONE) == 0);
+    return p;
 }
 
-static void lock_registers(void) { mprotect(edge_of_registers - page_size, (size_t)page_size, PROT_READ); }
+static uint8_t *at_the_edge(struct pages p, const uint8_t *bytes, size_t n, int writing)
+{
+    must(n <= ROOM);
+    allow(p, 1);
+    memcpy(p.edge - n, bytes, n);
+    allow(p, writing);
+    return p.edge - n;
+}
 
 /* -- books -- */
 
 struct book {
-    uint8_t bytes[17000];
+    uint8_t bytes[ROOM];
     size_t length;
 };
 
@@ -116,8 +119,8 @@ static void set_register(int j, unsigned value)
 /* Runs with copies at the edge of their pages; what is left is copied back. */
 static struct zn_run_answer run(const struct book *b, size_t start, uint64_t budget)
 {
-    const uint8_t *book = at_the_edge(b->bytes, b->length);
-    uint8_t *regs = registers_at_the_edge(registers, sizeof registers);
+    const uint8_t *book = at_the_edge(of_the_book, b->bytes, b->length, 0);
+    uint8_t *regs = at_the_edge(of_the_registers, registers, sizeof registers, 1);
     struct zn_run_answer a = zn_run(book, b->length, start, regs, REGISTERS_BYTES, budget);
     memcpy(registers, regs, sizeof registers);
     return a;
@@ -128,14 +131,12 @@ static int ends(struct zn_run_answer a, unsigned outcome, unsigned reg, uint64_t
     return a.refusal == 0 && a.place == 0 && a.outcome == outcome && a.reg == reg && a.steps == steps && a.line == line;
 }
 
-/* A refusal: its number and place, all else 0. The registers can't be written while the call is made. */
+/* A refusal: its number and place, all else 0. Nothing can be written while the call is made. */
 static int refuses(const struct book *b, size_t length, size_t start, size_t registers_length, unsigned number, unsigned place)
 {
-    uint8_t given[256];
-    memset(given, 0xA5, sizeof given);
-    uint8_t *regs = registers_at_the_edge(given, registers_length);
-    lock_registers();
-    struct zn_run_answer a = zn_run(at_the_edge(b->bytes, length), length, start, regs, registers_length, 9);
+    static uint8_t given[ROOM];
+    uint8_t *regs = at_the_edge(of_the_registers, given, registers_length, 0);
+    struct zn_run_answer a = zn_run(at_the_edge(of_the_book, b->bytes, length, 0), length, start, regs, registers_length, 9);
     return a.refusal == number && a.place == place && a.outcome == 0 && a.reg == 0 && a.steps == 0 && a.line == 0;
 }
 
@@ -213,18 +214,65 @@ static void limits(void)
     all_zero();
     check(ends(run(&down, 0, 1), ZN_FINISHED, 0, 1, 1) && left(0, 0), "DEC at 0 takes nothing off and is a step");
 
-    struct book most = headed(1, 4096);
+    static const uint64_t wide[] = {65536, 65541, (uint64_t)1 << 32, ((uint64_t)1 << 32) + 1, (uint64_t)1 << 63, UINT64_MAX};
+    struct book e = flat(2, (const unsigned[][3]){{DEC, 9, 2}, {GO_TO, 0, 0}});
+    int all_end = 1;
+    for (size_t i = 0; i < sizeof wide / sizeof *wide; i++) {
+        all_zero();
+        set_register(9, 2);
+        all_end = all_end && ends(run(&e, 0, wide[i]), ZN_FINISHED, 0, 5, 2) && left(0, 0);
+    }
+    check(all_end, "budgets that are small in 16 or 32 bits");
+}
+
+/* -- long books and long runs -- */
+
+/* 4,096 lines of GO TO, each 1,237 further and around; the one that would come back to line 0 goes to the end. Line 4,000 is INC 7. */
+static struct book long_way(void)
+{
+    struct book b = headed(1, 4096);
+    entry(&b, 0, 0, 4096);
+    for (size_t i = 0; i < 4096; i++)
+        line(&b, 1, i, GO_TO, 0, (i + 1237) % 4096 ? (i + 1237) % 4096 : 4096);
+    line(&b, 1, 4000, INC, 7, 0);
+    return b;
+}
+
+static void long_books(void)
+{
+    struct book most = headed(1, 4096), b = long_way();
     entry(&most, 0, 0, 4096);
     for (size_t i = 0; i < 4096; i++)
         line(&most, 1, i, INC, i % 32, 0);
     all_zero();
-    struct zn_run_answer a = run(&most, 0, UINT64_MAX);
-    int each_128 = ends(a, ZN_FINISHED, 0, 4096, 4096);
+    int each_128 = ends(run(&most, 0, UINT64_MAX), ZN_FINISHED, 0, 4096, 4096);
     for (int j = 0; j < REGISTERS; j++)
         each_128 = each_128 && registers[2 * j] == 128 && registers[2 * j + 1] == 0;
-    check(each_128, "4,096 lines");
+    check(each_128, "4,096 lines of INC");
     all_zero();
     check(ends(run(&most, 4096, 5), ZN_FINISHED, 0, 0, 4096), "a start at the end of 4,096 lines");
+
+    check(ends(run(&b, 2859, 9), ZN_FINISHED, 0, 1, 4096), "a target that is the end, 4,096");
+    check(ends(run(&b, 3000, 2), ZN_OUT_OF_STEPS, 0, 2, 1378), "OUT OF STEPS at line 1,378");
+    check(ends(run(&b, 300, 3), ZN_OUT_OF_STEPS, 0, 3, 4011), "OUT OF STEPS at line 4,011");
+    all_zero();
+    set_register(7, 65535);
+    check(ends(run(&b, 2763, 9), ZN_FULL, 7, 1, 4000), "FULL at line 4,000");
+    all_zero();
+    check(ends(run(&b, 4000, 1), ZN_OUT_OF_STEPS, 0, 1, 4001) && left(1, (const unsigned[][2]){{7, 1}}), "INC at line 4,000 goes on to 4,001");
+}
+
+static void long_runs(void)
+{
+    struct book a = flat(3, (const unsigned[][3]){{DEC, 0, 3}, {INC, 1, 0}, {GO_TO, 0, 0}});
+    all_zero();
+    set_register(0, 65535);
+    check(ends(run(&a, 0, 196606), ZN_FINISHED, 0, 196606, 3) && left(1, (const unsigned[][2]){{1, 65535}}), "sample A, as many steps as its quote");
+    all_zero();
+    set_register(0, 65535);
+    check(ends(run(&a, 0, 196605), ZN_OUT_OF_STEPS, 0, 196605, 0) && left(1, (const unsigned[][2]){{1, 65535}}), "sample A, one step less");
+    struct book f = flat(1, (const unsigned[][3]){{GO_TO, 0, 0}});
+    check(ends(run(&f, 0, 10000000), ZN_OUT_OF_STEPS, 0, 10000000, 0), "sample F, 10,000,000 steps");
 }
 
 /* -- refusals, each with its place and in its order -- */
@@ -293,6 +341,32 @@ static void refusals_of_lines(void)
     check(refuses(&w, w.length, 0, 64, 8, 1), "the lowest bad line, and of it the first test");
 }
 
+/* 32 routines of 128 lines: 16,524 bytes, the longest book. Each line is GO TO its routine's end. */
+static struct book longest(void)
+{
+    struct book b = headed(32, 4096);
+    for (unsigned r = 0; r < 32; r++)
+        entry(&b, r, 128 * r, 128);
+    for (size_t i = 0; i < 4096; i++)
+        line(&b, 32, i, GO_TO, 0, 128);
+    return b;
+}
+
+static void refusals_of_the_longest(void)
+{
+    struct book b = longest(), w;
+    check(b.length == 16524 && refuses(&b, b.length, 0, 64, 15, 0), "the longest book is taken, and not flat");
+    w = b, line(&w, 32, 4095, DEC, 0, 129);
+    check(refuses(&w, w.length, 0, 64, 9, 4095), "9 TARGET in the last of 4,096 lines");
+    w = b, line(&w, 32, 300, REPEAT, 31, 2);
+    check(refuses(&w, w.length, 0, 64, 10, 300), "10 CALLEE in line 300");
+    w = b, entry(&w, 20, 2560, 127);
+    check(refuses(&w, w.length, 0, 64, 6, 21), "6 ROUTINE, the entry behind a short one");
+    w = b, entry(&w, 31, 3968, 127);
+    check(refuses(&w, w.length, 0, 64, 6, 31), "6 ROUTINE, the last of 32 not to L");
+    check(refuses(&b, b.length + 65536, 0, 64, 5, 0), "5 LENGTH, longer by 65,536");
+}
+
 static void refusals_of_the_run(void)
 {
     struct book two = headed(2, 1);
@@ -303,7 +377,7 @@ static void refusals_of_the_run(void)
     check(refuses(&two, two.length, 9, 63, 15, 0), "15 before 16 and 17");
 
     struct book one = flat(1, (const unsigned[][3]){{INC, 0, 0}});
-    static const size_t others[] = {0, 1, 2, 32, 62, 63, 65, 66, 96, 128};
+    static const size_t others[] = {0, 1, 2, 32, 62, 63, 65, 66, 128, 320, 65600};
     int all_16 = 1;
     for (size_t i = 0; i < sizeof others / sizeof *others; i++)
         all_16 = all_16 && refuses(&one, one.length, 0, others[i], 16, 0);
@@ -317,17 +391,21 @@ static void refusals_of_the_run(void)
 
     struct zn_run_answer a = zn_run(0, 0, 0, 0, 0, 1);
     check(a.refusal == 1 && a.place == 0, "an empty book at NULL");
-    a = zn_run(at_the_edge(one.bytes, one.length), one.length, 0, 0, 0, 1);
+    a = zn_run(at_the_edge(of_the_book, one.bytes, one.length, 0), one.length, 0, 0, 0, 1);
     check(a.refusal == 16 && a.place == 0, "no registers at NULL");
 }
 
 int main(void)
 {
-    page_size = sysconf(_SC_PAGESIZE);
+    of_the_book = new_pages();
+    of_the_registers = new_pages();
     samples();
     limits();
+    long_books();
+    long_runs();
     refusals_of_the_front();
     refusals_of_lines();
+    refusals_of_the_longest();
     refusals_of_the_run();
     return report();
 }

@@ -24,7 +24,8 @@ static int one_in(size_t n) { return below(n) == 0; }
 
 /* -- a book -- */
 
-static uint8_t book[12 + 4 * 40 + 4 * 64 + 8];
+/* Room for a book of 4 routines of up to 1,000 lines, and a little more. */
+static uint8_t book[12 + 4 * 4 + 4 * 4000 + 8];
 static size_t book_length;
 
 static void put(size_t at, size_t n)
@@ -47,7 +48,7 @@ static void make_book(int forward)
 {
     size_t routines = one_in(8) ? 1 + below(4) : 1, counts[4], lines = 0;
     for (size_t r = 0; r < routines; r++)
-        lines += counts[r] = one_in(10) ? 0 : below(13);
+        lines += counts[r] = one_in(10) ? 0 : one_in(20) ? below(1001) : below(13);
     book_length = 12 + 4 * routines + 4 * lines;
     size_t header[6] = {1, routines, lines, 12, 12 + 4 * routines, book_length};
     for (size_t i = 0; i < 6; i++)
@@ -79,7 +80,7 @@ static void damage(void)
 static size_t made_start(void)
 {
     static const size_t wide[] = {65535, 65536, 65537, (size_t)1 << 32, ((size_t)1 << 32) + 1, (size_t)1 << 63, SIZE_MAX};
-    return one_in(3) ? below(16) : one_in(20) ? wide[below(7)] : 0;
+    return one_in(3) ? below(16) : one_in(20) ? wide[below(7)] : one_in(8) ? below(1000) : 0;
 }
 
 static size_t made_registers(uint8_t registers[80])
@@ -101,7 +102,13 @@ static int alike(struct zn_run_answer a, struct ran b)
 /* How often each refusal and each outcome came, and how often the two differed. */
 static unsigned long came[20], ended[4], differing;
 
-static void one_case(void)
+static void tell(unsigned long number, struct zn_run_answer a, struct ran b)
+{
+    printf("case %lu: zn_run refusal %d place %d outcome %d register %d steps %llu line %zu\n", number, a.refusal, a.place, a.outcome, a.reg, (unsigned long long)a.steps, a.line);
+    printf("case %lu: paper  refusal %d place %ld outcome %d register %d steps %llu line %zu\n", number, b.refusal.number, b.refusal.place, b.outcome, b.full, (unsigned long long)b.steps, b.line);
+}
+
+static void one_case(unsigned long number)
 {
     int forward = one_in(8);
     uint8_t given[80], ours[80], paper[80];
@@ -109,13 +116,13 @@ static void one_case(void)
     if (one_in(3))
         damage(), forward = 0;
     size_t start = made_start(), registers = made_registers(given);
-    uint64_t budget = forward ? UINT64_MAX - below(2) : one_in(3) ? below(8) : below(400);
+    uint64_t budget = forward ? UINT64_MAX - below(2) : one_in(3) ? below(8) : one_in(50) ? 65536 + below(3) : below(400);
     memcpy(ours, given, 80);
     memcpy(paper, given, 80);
     struct zn_run_answer a = zn_run(book, book_length, start, ours, registers, budget);
     struct ran b = paper_run(book, book_length, start, paper, registers, budget);
-    if (!alike(a, b) || memcmp(ours, paper, 80) || (b.refusal.number && memcmp(ours, given, 80)))
-        differing++;
+    if ((!alike(a, b) || memcmp(ours, paper, 80) || (b.refusal.number && memcmp(ours, given, 80))) && differing++ < 5)
+        tell(number, a, b);
     came[b.refusal.number]++;
     ended[b.outcome]++;
 }
@@ -125,10 +132,11 @@ int main(int argc, char **argv)
     static const int earned[] = {SHORT, FORMAT, COUNTS, OFFSETS, LENGTH, ROUTINE, KIND, REGISTER, TARGET, CALLEE, NOT_FLAT, REGISTERS, LINE};
     static const char *const outcomes[] = {"refused", "FINISHED", "OUT OF STEPS", "FULL"};
     unsigned long cases = argc > 1 ? strtoul(argv[1], 0, 10) : 200000;
-    state = argc > 2 ? strtoull(argv[2], 0, 10) : 20261115;
-    printf("%lu cases, seed %llu\n", cases, (unsigned long long)state);
+    uint64_t seed = argc > 2 ? strtoull(argv[2], 0, 10) : 20261115;
+    state = 2 * seed + 1;
+    printf("%lu cases, seed %llu\n", cases, (unsigned long long)seed);
     for (unsigned long i = 0; i < cases; i++)
-        one_case();
+        one_case(i);
     for (size_t i = 0; i < sizeof earned / sizeof *earned; i++) {
         char name[40];
         snprintf(name, sizeof name, "refusal %d came", earned[i]);

@@ -1,9 +1,9 @@
 -- `fields_of` has the fields of a run's answer.
 -- By its two cases; the refusal's number is the table's. Assumes nothing.
 use borrow.Author.Needs.{needs}
-use Rattle.page.proofs.Answers.{fields-refused, fields-done}
 use Rattle.page.proofs.fields_of.Statement.{statement}
 use Rattle.page.proofs.fields_of.Tie as tie
+use Rattle.page.proofs.Answers.{fields-refused, fields-done}
 
 enum-known-ran : tie.Need-enum-known-ran
 enum-known-ran c = search needs

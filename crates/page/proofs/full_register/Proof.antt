@@ -1,10 +1,10 @@
 -- `full_register` is the full register of an outcome, 0 where there is none.
 -- By the outcomes. Assumes nothing.
 use borrow.Author.Needs.{needs}
-use Rattle.scope.specs.Page.{full-register}
-use Rattle.unit.specs.Told.{outcome-told}
 use Rattle.page.proofs.full_register.Statement.{statement}
 use Rattle.page.proofs.full_register.Tie as tie
+use Rattle.scope.specs.Page.{full-register}
+use Rattle.unit.specs.Told.{outcome-told}
 
 enum-told : tie.Need-enum-told
 enum-told c = search needs

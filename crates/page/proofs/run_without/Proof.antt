@@ -1,9 +1,9 @@
 -- `run_without` answers C as a run that is lent no registers does.
 -- Its fields are those of that run. Assumes nothing.
 use borrow.Author.Needs.{needs}
-use Rattle.page.proofs.Answers.{fields-of-the-call}
 use Rattle.page.proofs.run_without.Statement.{statement}
 use Rattle.page.proofs.run_without.Tie as tie
+use Rattle.page.proofs.Answers.{fields-of-the-call}
 
 slice-aggregate-run : tie.Need-slice-aggregate-run
 slice-aggregate-run c = search needs

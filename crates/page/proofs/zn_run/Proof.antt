@@ -1,9 +1,9 @@
 -- `zn_run` answers C as document 01's page says, and leaves the registers' bytes so.
 -- Another length is refused as a run without registers is; with 64 bytes the run is one of the registers that they say. Assumes nothing.
 use borrow.Author.Needs.{needs}
-use Rattle.page.proofs.Answers.{other-length, run-is-refused, run-is-done}
 use Rattle.page.proofs.zn_run.Statement.{statement}
 use Rattle.page.proofs.zn_run.Tie as tie
+use Rattle.page.proofs.Answers.{other-length, run-is-refused, run-is-done}
 
 run-without-requires : tie.Need-run-without-requires
 run-without-requires c κs = search needs

@@ -1,10 +1,10 @@
 -- `run` answers as the definitions' running does, and leaves the registers so.
 -- A book that is refused decides; a taken one gives what `run_taken` asks. Assumes nothing.
 use borrow.Author.Needs.{needs}
-use Rattle.book.proofs.Answers.{checked-taken}
-use Rattle.unit.proofs.Answers.{book-refused}
 use Rattle.unit.proofs.run.Statement.{statement}
 use Rattle.unit.proofs.run.Tie as tie
+use Rattle.book.proofs.Answers.{checked-taken}
+use Rattle.unit.proofs.Answers.{book-refused}
 
 check-requires : tie.Need-check-requires
 check-requires c κs = search needs

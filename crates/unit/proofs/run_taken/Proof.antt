@@ -1,10 +1,10 @@
 -- `run_taken` answers as the definitions' running does, for a taken book, and leaves the registers so.
 -- Tests 15, 16 and 17 in their order; a book that passes them is run. Assumes nothing.
 use borrow.Author.Needs.{needs}
-use Rattle.book.specs.Told.{name-told}
-use Rattle.unit.proofs.Answers.{not-flat, not-32-registers, line-past-the-end, run-answers}
 use Rattle.unit.proofs.run_taken.Statement.{statement}
 use Rattle.unit.proofs.run_taken.Tie as tie
+use Rattle.book.specs.Told.{name-told}
+use Rattle.unit.proofs.Answers.{not-flat, not-32-registers, line-past-the-end, run-answers}
 
 of-requires : tie.Need-of-requires
 of-requires c κs = search needs

@@ -1,9 +1,9 @@
 -- `step` answers as a run with a budget of 1 from the state does, and gives the new state, or the one that came where it is refused.
 -- The state's registers are 32, so what is tested before a run is what is tested before a bench step. Assumes nothing.
 use borrow.Author.Needs.{needs}
-use Rattle.unit.proofs.Answers.{step-refused, step-made}
 use Rattle.unit.proofs.step.Statement.{statement}
 use Rattle.unit.proofs.step.Tie as tie
+use Rattle.unit.proofs.Answers.{step-refused, step-made}
 
 slice-aggregate-run : tie.Need-slice-aggregate-run
 slice-aggregate-run c = search needs

@@ -1,8 +1,8 @@
 -- `flat::fields_of` has the fields of an instruction, as the table of kinds says.
 -- By the instruction's cases. Assumes nothing.
+use borrow.Author.Needs.{needs}
 use Rattle.book.proofs.flat.fields_of.Statement.{statement}
 use Rattle.book.proofs.flat.fields_of.Tie as tie
-use borrow.Author.Needs.{needs}
 use Rattle.book.proofs.Written.{DEC-target-fits, GO-TO-target-fits}
 use Rattle.scope.specs.Book.{fields-of}
 use Rattle.scope.specs.Flattening.{as-line}

@@ -1,8 +1,8 @@
 -- `flat::put_line` leaves the bytes of an instruction at flat line i.
 -- The four bytes that are put are its fields. Assumes nothing.
+use borrow.Author.Needs.{needs}
 use Rattle.book.proofs.flat.put_line.Statement.{statement}
 use Rattle.book.proofs.flat.put_line.Tie as tie
-use borrow.Author.Needs.{needs}
 use Rattle.scope.specs.Flattening.{flat-book-bytes, bytes-of-fields}
 use Rattle.scope.specs.Book.{two-bytes}
 use Rattle.book.specs.Told.{fields-told}

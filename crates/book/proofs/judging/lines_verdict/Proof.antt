@@ -1,8 +1,8 @@
 -- `judging::lines_verdict` is the lines' verdict: the lowest bad line is the one named.
 -- The loops keep that all routines below r, and of routine r all lines below j, pass (`Passed-to`); R - r and the count less j fall. Assumes nothing.
+use borrow.Author.Needs.{needs}
 use Rattle.book.proofs.judging.lines_verdict.Statement.{statement}
 use Rattle.book.proofs.judging.lines_verdict.Tie as tie
-use borrow.Author.Needs.{needs}
 use Prim.Native.Nat.{_-_}
 use Rattle.scope.specs.Book.{line-verdict, routine-verdict}
 use Rattle.book.specs.Told.{verdict-told}

@@ -1,8 +1,8 @@
 -- `lines::line_at` is line j of the routine.
 -- Past the table's tests every line of a routine is a line of the book, so it stands in the bytes. Assumes nothing.
+use borrow.Author.Needs.{needs}
 use Rattle.book.proofs.lines.line_at.Statement.{statement}
 use Rattle.book.proofs.lines.line_at.Tie as tie
-use borrow.Author.Needs.{needs}
 use Rattle.book.proofs.Scanned.{place-fits, line-within}
 use Rattle.scope.specs.Book.{fields-in, line-number}
 

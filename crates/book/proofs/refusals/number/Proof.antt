@@ -1,11 +1,11 @@
 -- `refusals::number` is the table's number of a name.
 -- By the table's rows, one after another. Assumes nothing.
 use borrow.Author.Needs.{needs}
+use Rattle.book.proofs.refusals.number.Statement.{statement}
+use Rattle.book.proofs.refusals.number.Tie as tie
 use Rattle.scope.specs.Refusals.{number}
 use Rattle.book.proofs.Rules.{row-of-the-table}
 use Rattle.book.specs.Told.{name-told}
-use Rattle.book.proofs.refusals.number.Statement.{statement}
-use Rattle.book.proofs.refusals.number.Tie as tie
 
 enum-told : tie.Need-enum-told
 enum-told c = search needs

@@ -1,8 +1,8 @@
 -- `machine::does` does what the definitions' step does before one instruction, and leaves the registers so.
 -- One law for each way out (`Steps`); the registers named are there. Assumes nothing.
+use borrow.Author.Needs.{needs}
 use Rattle.unit.proofs.machine.does.Statement.{statement}
 use Rattle.unit.proofs.machine.does.Tie as tie
-use borrow.Author.Needs.{needs}
 use Rattle.unit.proofs.Steps.{INC-within, DEC-within, INC-stops, INC-goes-on, DEC-jumps, DEC-goes-on, GO-TO-jumps}
 
 add-on : tie.Need-add-on

@@ -1,10 +1,10 @@
 -- `machine::run_on` ends as the run of the book's program does, and leaves the registers so.
 -- At every turn the rest of the run ends as the whole does (`Keeps`); the budget less the steps falls. Assumes nothing.
 use borrow.Author.Needs.{needs}
-use Prim.Native.Nat.{_-_}
-use Rattle.unit.proofs.Runs.{Keeps, nothing-done, line-there, line-below-the-most, register-there, run-goes-on, ends}
 use Rattle.unit.proofs.machine.run_on.Statement.{statement}
 use Rattle.unit.proofs.machine.run_on.Tie as tie
+use Prim.Native.Nat.{_-_}
+use Rattle.unit.proofs.Runs.{Keeps, nothing-done, line-there, line-below-the-most, register-there, run-goes-on, ends}
 
 abbrev Inv-loop : tie.InvT-loop
 Inv-loop flat regs₀ budget n line₀ steps₀ regs line steps = Keeps flat n budget (line₀ .0) regs₀ (line .0) steps regs
