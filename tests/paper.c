@@ -68,7 +68,7 @@ static int line_fault(const uint8_t *b, long r, long i)
     return 0;
 }
 
-struct refusal paper_check(const uint8_t *b, size_t length)
+static struct refusal check(const uint8_t *b, size_t length)
 {
     struct refusal r = front(b, length);
     if (r.number)
@@ -89,7 +89,7 @@ struct refusal paper_check(const uint8_t *b, size_t length)
 
 static struct refusal run_refusal(const uint8_t *b, size_t length, size_t start, size_t registers_length)
 {
-    struct refusal r = paper_check(b, length);
+    struct refusal r = check(b, length);
     if (r.number)
         return r;
     if (routines(b) > 1)

@@ -29,8 +29,6 @@ struct ran {
     size_t line;
 };
 
-struct refusal paper_check(const uint8_t *book, size_t length);
-
 struct ran paper_run(const uint8_t *book, size_t length, size_t start, uint8_t *registers, size_t registers_length, uint64_t budget);
 
 #endif
