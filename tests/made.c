@@ -61,7 +61,7 @@ static void make_book(int forward)
     }
 }
 
-/* A byte, a number or the length changed, most often by little; twice in a while, so that two faults fight about the order. */
+/* A byte, a number or the length changed, most often by little; now and then more than once, so that the order of two faults is tested. */
 static void damage(void)
 {
     do {

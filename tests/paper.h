@@ -20,7 +20,7 @@ struct refusal {
     long place;
 };
 
-/* What a run answers, and the registers that it leaves. */
+/* What a run answers. The registers that it leaves stand in the caller's bytes. */
 struct ran {
     struct refusal refusal;
     enum outcome outcome;

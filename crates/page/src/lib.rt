@@ -26,6 +26,7 @@ pub struct RunAnswer {
     pub line: usize,
 }
 
+// The outcome's number for C; 0 is left for a refused call.
 fn outcome_number(o: Outcome) -> u16
     ensures { λ r. ⌜ r ≡ outcome-number (outcome-told o) ⌝ }
 {
@@ -36,6 +37,7 @@ fn outcome_number(o: Outcome) -> u16
     }
 }
 
+// The full register where the outcome is FULL, else 0.
 fn full_register(o: Outcome) -> u16
     ensures { λ r. ⌜ r ≡ full-register (outcome-told o) ⌝ }
 {

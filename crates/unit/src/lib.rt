@@ -15,6 +15,7 @@ use machine::Answer;
 use machine::REGISTERS;
 use machine::run_on;
 
+// What a run answers, or the refusal.
 pub enum Ran {
     Done(Answer),
     Refused(Refusal),

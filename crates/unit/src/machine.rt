@@ -42,7 +42,7 @@ enum Next {
     Full(Reg),
 }
 
-// One more, of a register that is not full.
+// One more. A register that is not full holds less than 65,535, so the sum fits.
 fn raised(v: u16) -> u16
     requires { ⌜ v ≢ top ⌝ }
     ensures { λ r. ⌜ r ≡ v + 1 ⌝ }
