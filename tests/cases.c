@@ -1,11 +1,10 @@
 /* Cases by hand, from C: the paper's samples, the limits, each refusal that a run can earn, and what is written. */
 #include "../include/zundernetz.h"
+#include "books.h"
+#include "edge.h"
 #include "report.h"
 
-#include <stdlib.h>
 #include <string.h>
-#include <sys/mman.h>
-#include <unistd.h>
 
 /* How an answer is laid out: docs/C-INTERFACE.md. */
 typedef char size_is_24[sizeof(struct zn_run_answer) == 24 ? 1 : -1];
@@ -16,93 +15,9 @@ typedef char reg_at_6[offsetof(struct zn_run_answer, reg) == 6 ? 1 : -1];
 typedef char steps_at_8[offsetof(struct zn_run_answer, steps) == 8 ? 1 : -1];
 typedef char line_at_16[offsetof(struct zn_run_answer, line) == 16 ? 1 : -1];
 
-enum { INC = 1, DEC, GO_TO, CALL, REPEAT, REGISTERS = 32, REGISTERS_BYTES = 64 };
-
-/* -- memory with an edge: what is put there ends where no byte can be touched -- */
-
-enum { ROOM = 21 * 4096 };
-
-struct pages {
-    uint8_t *edge;
-};
+enum { REGISTERS = 32, REGISTERS_BYTES = 64 };
 
 static struct pages of_the_book, of_the_registers;
-
-static void must(int right)
-{
-    if (!right)
-        abort();
-}
-
-/* Whether the pages in front of the edge can be written. */
-static void allow(struct pages p, int writing)
-{
-    must(mprotect(p.edge - ROOM, ROOM, writing ? PROT_READ | PROT_WRITE : PROT_READ) == 0);
-}
-
-static struct pages new_pages(void)
-{
-    uint8_t *at = mmap(0, ROOM + 4096, PROT_READ | PROT_WRITE, MAP_PRIVATE | MAP_ANONYMOUS, -1, 0);
-    struct pages p = {at + ROOM};
-    must(at != MAP_FAILED && sysconf(_SC_PAGESIZE) == 4096);
-    must(mprotect(p.edge, 4096, PROT_NONE) == 0);
-    return p;
-}
-
-static uint8_t *at_the_edge(struct pages p, const uint8_t *bytes, size_t n, int writing)
-{
-    must(n <= ROOM);
-    allow(p, 1);
-    memcpy(p.edge - n, bytes, n);
-    allow(p, writing);
-    return p.edge - n;
-}
-
-/* -- books -- */
-
-struct book {
-    uint8_t bytes[ROOM];
-    size_t length;
-};
-
-static void put(struct book *b, size_t at, unsigned n)
-{
-    b->bytes[at] = (uint8_t)n;
-    b->bytes[at + 1] = (uint8_t)(n >> 8);
-}
-
-/* A header for so many routines and lines; the entries and lines are put behind it. */
-static struct book headed(unsigned routines, unsigned lines)
-{
-    struct book b = {{0}, 12 + 4 * (size_t)routines + 4 * (size_t)lines};
-    unsigned header[6] = {1, routines, lines, 12, 12 + 4 * routines, (unsigned)b.length};
-    for (size_t i = 0; i < 6; i++)
-        put(&b, 2 * i, header[i]);
-    return b;
-}
-
-static void entry(struct book *b, size_t routine, unsigned first, unsigned count)
-{
-    put(b, 12 + 4 * routine, first);
-    put(b, 12 + 4 * routine + 2, count);
-}
-
-static void line(struct book *b, size_t routines, size_t i, unsigned kind, unsigned reg, unsigned operand)
-{
-    size_t at = 12 + 4 * routines + 4 * i;
-    b->bytes[at] = (uint8_t)kind;
-    b->bytes[at + 1] = (uint8_t)reg;
-    put(b, at + 2, operand);
-}
-
-static struct book flat(unsigned n, const unsigned lines[][3])
-{
-    struct book b = headed(1, n);
-    entry(&b, 0, 0, n);
-    for (size_t i = 0; i < n; i++)
-        line(&b, 1, i, lines[i][0], lines[i][1], lines[i][2]);
-    return b;
-}
 
 /* -- a run and what is expected of it -- */
 
@@ -289,54 +204,63 @@ static struct book two_routines(void)
     return b;
 }
 
-static void refusals_of_the_front(void)
+/* That book with one number of its header or of an entry changed. */
+static void refusals_of_numbers(void)
+{
+    static const struct {
+        const char *name;
+        unsigned at, value, number, place;
+    } changes[] = {
+        {"2 FORMAT", 0, 257, 2, 0},
+        {"3 COUNTS, no routine", 2, 0, 3, 0},
+        {"4 OFFSETS, of the routine table", 6, 13, 4, 0},
+        {"4 OFFSETS, of the line table", 8, 21, 4, 0},
+        {"4 OFFSETS, the stated length", 10, 33, 4, 0},
+        {"6 ROUTINE, the first not at 0", 12, 1, 6, 0},
+        {"6 ROUTINE, a gap", 16, 2, 6, 1},
+        {"6 ROUTINE, the last not to L", 18, 1, 6, 1},
+    };
+    for (size_t i = 0; i < sizeof changes / sizeof *changes; i++) {
+        struct book b = two_routines();
+        put(&b, changes[i].at, changes[i].value);
+        check(refuses(&b, b.length, 0, 64, changes[i].number, changes[i].place), changes[i].name);
+    }
+}
+
+/* That book with one line changed. The place is that line. */
+static void refusals_of_lines(void)
+{
+    static const struct {
+        const char *name;
+        unsigned line, kind, reg, operand, number;
+    } changes[] = {
+        {"7 KIND 0", 1, 0, 0, 0, 7},
+        {"7 KIND 6", 2, 6, 0, 0, 7},
+        {"8 REGISTER 32", 0, INC, 32, 0, 8},
+        {"8 REGISTER, not 0 where 0 stands", 2, GO_TO, 1, 0, 8},
+        {"9 TARGET, INC's operand", 0, INC, 0, 1, 9},
+        {"9 TARGET past the end", 2, DEC, 0, 3, 9},
+        {"10 CALLEE, itself", 1, CALL, 0, 1, 10},
+        {"10 CALLEE of the first routine", 0, REPEAT, 0, 0, 10},
+    };
+    for (size_t i = 0; i < sizeof changes / sizeof *changes; i++) {
+        struct book b = two_routines();
+        line(&b, 2, changes[i].line, changes[i].kind, changes[i].reg, changes[i].operand);
+        check(refuses(&b, b.length, 0, 64, changes[i].number, changes[i].line), changes[i].name);
+    }
+}
+
+static void refusals_of_other_books(void)
 {
     struct book b = two_routines(), w;
     check(refuses(&b, 0, 0, 64, 1, 0) && refuses(&b, 11, 0, 64, 1, 0), "1 SHORT");
-    w = b, put(&w, 0, 257);
-    check(refuses(&w, w.length, 0, 64, 2, 0), "2 FORMAT");
-    w = b, put(&w, 2, 0);
-    check(refuses(&w, w.length, 0, 64, 3, 0), "3 COUNTS, no routine");
+    check(refuses(&b, b.length - 1, 0, 64, 5, 0) && refuses(&b, b.length + 1, 0, 64, 5, 0), "5 LENGTH");
     w = headed(33, 0);
     check(refuses(&w, w.length, 0, 64, 3, 0), "3 COUNTS, 33 routines");
     w = headed(1, 4097);
     check(refuses(&w, w.length, 0, 64, 3, 0), "3 COUNTS, 4,097 lines");
-    w = b, put(&w, 6, 13);
-    check(refuses(&w, w.length, 0, 64, 4, 0), "4 OFFSETS, of the routine table");
-    w = b, put(&w, 8, 21);
-    check(refuses(&w, w.length, 0, 64, 4, 0), "4 OFFSETS, of the line table");
-    w = b, put(&w, 10, 33);
-    check(refuses(&w, w.length, 0, 64, 4, 0), "4 OFFSETS, the stated length");
-    check(refuses(&b, b.length - 1, 0, 64, 5, 0) && refuses(&b, b.length + 1, 0, 64, 5, 0), "5 LENGTH");
-    w = b, entry(&w, 0, 1, 1);
-    check(refuses(&w, w.length, 0, 64, 6, 0), "6 ROUTINE, the first not at 0");
-    w = b, entry(&w, 1, 2, 1);
-    check(refuses(&w, w.length, 0, 64, 6, 1), "6 ROUTINE, a gap");
-    w = b, entry(&w, 1, 1, 1);
-    check(refuses(&w, w.length, 0, 64, 6, 1), "6 ROUTINE, the last not to L");
     w = b, entry(&w, 0, 0, 65535), entry(&w, 1, 65535, 4);
     check(refuses(&w, w.length, 0, 64, 6, 1), "6 ROUTINE, a sum that would wrap in 16 bits");
-}
-
-static void refusals_of_lines(void)
-{
-    struct book b = two_routines(), w;
-    w = b, line(&w, 2, 1, 0, 0, 0);
-    check(refuses(&w, w.length, 0, 64, 7, 1), "7 KIND 0");
-    w = b, line(&w, 2, 2, 6, 0, 0);
-    check(refuses(&w, w.length, 0, 64, 7, 2), "7 KIND 6");
-    w = b, line(&w, 2, 0, INC, 32, 0);
-    check(refuses(&w, w.length, 0, 64, 8, 0), "8 REGISTER 32");
-    w = b, line(&w, 2, 2, GO_TO, 1, 0);
-    check(refuses(&w, w.length, 0, 64, 8, 2), "8 REGISTER, not 0 where 0 stands");
-    w = b, line(&w, 2, 0, INC, 0, 1);
-    check(refuses(&w, w.length, 0, 64, 9, 0), "9 TARGET, INC's operand");
-    w = b, line(&w, 2, 2, DEC, 0, 3);
-    check(refuses(&w, w.length, 0, 64, 9, 2), "9 TARGET past the end");
-    w = b, line(&w, 2, 1, CALL, 0, 1);
-    check(refuses(&w, w.length, 0, 64, 10, 1), "10 CALLEE, itself");
-    w = b, line(&w, 2, 0, REPEAT, 0, 0);
-    check(refuses(&w, w.length, 0, 64, 10, 0), "10 CALLEE of the first routine");
     w = b, line(&w, 2, 2, 9, 40, 9), line(&w, 2, 1, DEC, 32, 9);
     check(refuses(&w, w.length, 0, 64, 8, 1), "the lowest bad line, and of it the first test");
 }
@@ -403,8 +327,9 @@ int main(void)
     limits();
     long_books();
     long_runs();
-    refusals_of_the_front();
+    refusals_of_numbers();
     refusals_of_lines();
+    refusals_of_other_books();
     refusals_of_the_longest();
     refusals_of_the_run();
     return report();
