@@ -24,7 +24,7 @@ use super::numbers::high;
 use super::numbers::low;
 
 // The header of a flat book, with the entry of its one routine.
-const FLAT_HEADER_BYTES: usize = HEADER_BYTES + ENTRY_BYTES;
+pub const FLAT_HEADER_BYTES: usize = HEADER_BYTES + ENTRY_BYTES;
 
 // A flat line number, kept apart from a routine's. It is wide, since the machine indexes by it at every step.
 pub struct FlatLine(pub usize);

@@ -14,13 +14,13 @@ pub(crate) const HEADER_BYTES: usize = 12;
 
 pub(crate) const ENTRY_BYTES: usize = 4;
 
-pub(crate) const LINE_BYTES: usize = 4;
+pub const LINE_BYTES: usize = 4;
 
 pub(crate) const THE_FORMAT: u16 = 1;
 
-const MOST_ROUTINES: u16 = 32;
+pub const MOST_ROUTINES: u16 = 32;
 
-const MOST_LINES: u16 = 4096;
+pub const MOST_LINES: u16 = 4096;
 
 // How many routines and lines a book has.
 pub struct Counts {

@@ -1,0 +1,135 @@
+-- The depth of a routine, line by line: the deepest of the routines that its first lines use, and at its end one more.
+-- What is said of the first j + 1 lines is the larger of what is said of the first j and of the next. Assumes nothing.
+use Prim.Native.Nat.{ℕ, zero, suc, _+_, _<_, _≤_, min, max}
+use native.Mathlib.Omega.{arith}
+use native.Mathlib.Numerals.{add-one}
+use mathlib.Core.Path.{_≡_, refl, sym, _∙_, ap}
+use mathlib.Core.Logic.{⊎-elim}
+use mathlib.Core.List.{List, [], _∷_}
+use lib.ListN.{length, getD, set, take, drop}
+use lib.Seq.{take-all}
+use Rattle.scope.specs.Words.{_above_}
+use Rattle.scope.specs.Book as book
+use Rattle.scope.specs.Book.{most-routines, routines, count, line-of, fields-in, routine, book-of, used}
+use Rattle.scope.specs.Flattening.{most-open, deepest, depth-by, depth}
+use Rattle.scope.proofs.Verdicts.{one-holds, above-tells}
+use Rattle.scope.proofs.Lists.{nothing-stands}
+use Rattle.scope.proofs.Lowest.{depth-by-the-rule}
+use Rattle.scope.proofs.TakenBook.{taken-callees-below, routine-in-the-book, length-routine-of}
+use Rattle.book.specs.declared.header.Counts.{Counts}
+use Rattle.book.specs.declared.lines.Reg.{Reg}
+use Rattle.book.specs.declared.lines.RoutineLine.{RoutineLine}
+use Rattle.book.specs.declared.lines.Line.{Line}
+use Rattle.book.specs.declared.lines.Line.the-variants as line
+use Rattle.book.specs.Told.{line-told}
+use Rattle.book.specs.Asked.{Taken-with}
+use Rattle.book.proofs.Scanned.{below-R}
+use Rattle.book.proofs.Fits.{CALL-below, REPEAT-below}
+use Rattle.flatten.specs.Rows.{depth-cap, Row}
+use Rattle.flatten.proofs.Rows.{line-there, empty-row, one-more-routine}
+
+-- ---- a line
+
+module _ (b : List ℕ) (c : Counts) (l : Line) (k j : ℕ) (t : Taken-with b c) (h : k < c .routines) (s : j < count b k)
+    (e : line-told l ≡ line-of (fields-in b k j)) (row : List ℕ) (w : Row (depth (book-of b)) depth-cap k row) where
+  abbrev capped-depth : ℕ
+  capped-depth = min (used 0 (depth (book-of b)) (line-of (fields-in b k j))) depth-cap
+
+  of-the-line : {m : Line} → l ≡ m → min (used 0 (depth (book-of b)) (line-told m)) depth-cap ≡ capped-depth
+  of-the-line f = ap (λ x. min (used 0 (depth (book-of b)) x) depth-cap) (ap line-told (sym f) ∙ e)
+
+  pub INC-depth : {g : Reg} → l ≡ line.Inc g → 0 ≡ capped-depth
+  unfolding used line-told
+  INC-depth f = of-the-line f
+
+  pub DEC-depth : {g : Reg} {u : RoutineLine} → l ≡ line.Dec g u → 0 ≡ capped-depth
+  unfolding used line-told
+  DEC-depth f = of-the-line f
+
+  pub GO-TO-depth : {u : RoutineLine} → l ≡ line.GoTo u → 0 ≡ capped-depth
+  unfolding used line-told
+  GO-TO-depth f = of-the-line f
+
+  pub CALL-depth : {q : ℕ} → l ≡ line.Call q → getD row q 0 ≡ capped-depth
+  unfolding used line-told
+  CALL-depth f = w .each _ (CALL-below b c l k j t h s e f) ∙ of-the-line f
+
+  pub REPEAT-depth : {g : Reg} {q : ℕ} → l ≡ line.Repeat g q → getD row q 0 ≡ capped-depth
+  unfolding used line-told
+  REPEAT-depth f = w .each _ (REPEAT-below b c l k j t h s e f) ∙ of-the-line f
+
+-- ---- a routine
+
+deepest-to-the-next : (f : ℕ → ℕ) {l : book.Line} {rest : List book.Line} (ls : List book.Line) (i : ℕ) → drop i ls ≡ l ∷ rest
+    → deepest f (take (suc i) ls) ≡ max (deepest f (take i ls)) (used 0 f l)
+unfolding deepest
+deepest-to-the-next f [] i e = nothing-stands i e
+deepest-to-the-next f {l} (x ∷ ls) zero e = let z : x ≡ l = cc in rw z (omega arith)
+deepest-to-the-next f {l} (x ∷ ls) (suc i) e = omega (arith, deepest-to-the-next f ls i e)
+
+-- The deepest that the first j of routine k's n lines use.
+pub record Deepest-to (b : List ℕ) (k n j d : ℕ) : Type 0 where
+  pub upto : j ≤ n
+  pub so-far : d ≡ min (deepest (depth (book-of b)) (take j (routine (book-of b) k))) depth-cap
+  pub capped : d ≤ depth-cap
+
+pub none-looked-at : (b : List ℕ) (k n : ℕ) → Deepest-to b k n 0 0
+unfolding deepest
+none-looked-at b k n = record { upto = omega arith; so-far = refl; capped = omega arith }
+
+module _ (b : List ℕ) (c : Counts) (k n : ℕ) (t : Taken-with b c) (h : k < c .routines) (size : n ≡ count b k) (j d : ℕ)
+    (s : Deepest-to b k n j d) where
+  here : k < routines b
+  here = below-R k (t .tabled .sized) h
+
+  pub one-more-looked-at : (m d′ : ℕ) → j < n → m ≡ min (used 0 (depth (book-of b)) (line-of (fields-in b k j))) depth-cap → d′ ≡ max d m
+      → Deepest-to b k n (j + 1) d′
+  one-more-looked-at m d′ g e f =
+      let next = deepest-to-the-next (depth (book-of b)) (routine (book-of b) k) j (line-there b k j here (rw size at g)) in
+      record {
+        upto = omega (arith, g);
+        so-far = rw (add-one j) (omega (arith, s .so-far, e, f, next));
+        capped = omega (arith, e, f, s .capped);
+      }
+
+  pub routine-depth-is : (r : ℕ) → n ≤ j → r ≡ min (1 + d) depth-cap → r ≡ min (depth (book-of b) k) depth-cap
+  unfolding depth-by
+  routine-depth-is r g e =
+      let long : length (routine (book-of b) k) ≡ n = rw (routine-in-the-book b k here) (length-routine-of b k ∙ sym size) in
+      let whole : take j (routine (book-of b) k) ≡ routine (book-of b) k = take-all j (routine (book-of b) k) (omega (arith, long, g)) in
+      let all = rw whole at (s .so-far) in
+      omega (arith, e, all, depth-by-the-rule (book-of b) (taken-callees-below b (t .taken)) k)
+
+-- ---- the row
+
+-- The depths of the routines below k, up to the asked one.
+pub record Depths-to (b : List ℕ) (routine k : ℕ) (depths : List ℕ) : Type 0 where
+  pub upto : k ≤ routine + 1
+  pub depths-are : Row (depth (book-of b)) depth-cap k depths
+
+pub no-depth-yet : (b : List ℕ) (routine : ℕ) (depths : List ℕ) → length depths ≡ most-routines → Depths-to b routine 0 depths
+no-depth-yet b routine depths long = record { upto = omega arith; depths-are = empty-row (depth (book-of b)) depth-cap depths long }
+
+module _ (b : List ℕ) (c : Counts) (t : Taken-with b c) (routine k : ℕ) (h : routine < c .routines) (depths : List ℕ)
+    (s : Depths-to b routine k depths) where
+  pub routine-there : k ≤ routine → k < c .routines
+  routine-there g = omega (arith, g, h)
+
+  pub one-more-depth : (d : ℕ) → k ≤ routine → d ≡ min (depth (book-of b) k) depth-cap → Depths-to b routine (k + 1) (set depths k d)
+  one-more-depth d g e =
+      record {
+        upto = omega (arith, g);
+        depths-are =
+            one-more-routine (depth (book-of b)) depth-cap depths k d (s .depths-are) (omega (arith, g, h, t .tabled .sized .routines-to-32)) e;
+      }
+
+  -- Stopped above 32, a depth is above 32 where it was.
+  pub too-deep-tells : routine < k → (getD depths routine 0 above most-open) ≡ (depth (book-of b) routine above most-open)
+  too-deep-tells g =
+      let m = getD depths routine 0 in
+      let n = depth (book-of b) routine in
+      let stopped = s .depths-are .each routine g in
+      ⊎-elim
+      (λ (deep : most-open < m). above-tells m most-open .when-true .1 deep ∙ sym (above-tells n most-open .when-true .1 (omega (arith, deep, stopped))))
+      (λ (flat : m ≤ most-open). above-tells m most-open .when-false .1 flat ∙ sym (above-tells n most-open .when-false .1 (omega (arith, flat, stopped))))
+      (one-holds (above-tells m most-open))

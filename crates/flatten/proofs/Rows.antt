@@ -1,0 +1,234 @@
+-- What stands in a row of routines, and in the table of starts, while they are filled from the lowest routine up.
+-- A routine uses lower ones only, so what it looks up is there; the parts of the table lie one behind the other. Assumes nothing.
+use mir.Syntax.{w32}
+use mir.Val.{Fits}
+use Prim.Native.Nat.{ℕ, zero, suc, _+_, _<_, _≤_, min}
+use native.Mathlib.Omega.{arith}
+use native.Mathlib.Decide.{ℕ-discrete}
+use native.Mathlib.Numerals.{add-one}
+use mathlib.Core.Path.{_≡_, refl, sym, _∙_, ap}
+use mathlib.Core.Logic.{⊎-elim}
+use mathlib.Core.List.{List, [], _∷_}
+use lib.ListN.{length, getD, set, length-set, drop}
+use lib.Seq.{getD-set-same, getD-set-other}
+use Rattle.scope.specs.Book.{most-routines, routines, lines, first-line, first-line-due, count, line-of, fields-in, routine, book-of}
+use Rattle.scope.specs.Flattening.{line-length, flat-length, start}
+use Rattle.scope.proofs.Verdicts.{one-holds, below-tells}
+use Rattle.scope.proofs.TakenBook.{taken-book, taken-callees-below, routine-in-the-book, stands-in-its-routine}
+use Rattle.scope.proofs.FlatLines.{first-start, next-start, end-start}
+use Rattle.book.specs.declared.header.Counts.{Counts}
+use Rattle.book.specs.declared.lines.Reg.{Reg}
+use Rattle.book.specs.declared.lines.RoutineLine.{RoutineLine}
+use Rattle.book.specs.declared.lines.Line.{Line}
+use Rattle.book.specs.declared.lines.Line.the-variants as line
+use Rattle.book.specs.Told.{line-told}
+use Rattle.book.specs.Asked.{Taken-with}
+use Rattle.book.proofs.Scanned.{below-R}
+use Rattle.book.proofs.Fits.{CALL-below, REPEAT-below, routine-ends}
+use Rattle.flatten.specs.Rows.{length-cap, Row, slot, due, table-length, Filled, Measured, Measured-all}
+
+-- ---- a row
+
+module _ (said : ℕ → ℕ) (cap : ℕ) (row : List ℕ) where
+  pub empty-row : length row ≡ most-routines → Row said cap 0 row
+  empty-row long = record { long = long; each = λ c h. absurd (omega arith) }
+
+  pub one-more-routine : (k n : ℕ) → Row said cap k row → k < most-routines → n ≡ min (said k) cap → Row said cap (k + 1) (set row k n)
+  one-more-routine k n w h e =
+      record { long = length-set row k n ∙ w .long; each = λ c low. put c low (ℕ-discrete c k) }
+    where
+      put : (c : ℕ) → c < k + 1 → Dec (c ≡ k) → getD (set row k n) c 0 ≡ min (said c) cap
+      put c low (yes same) = rw same (getD-set-same row k n 0 (omega (arith, h, w .long)) ∙ e)
+      put c low (no other) = getD-set-other row k c n 0 other ∙ w .each c (omega (arith, low, other))
+
+-- Line j of routine k is l, and the row has what is said of the routines below k: so it has what is said of the one that the line uses.
+module _ (b : List ℕ) (c : Counts) (l : Line) (k j : ℕ) (t : Taken-with b c) (h : k < c .routines) (s : j < count b k)
+    (e : line-told l ≡ line-of (fields-in b k j)) (said : ℕ → ℕ) (cap : ℕ) (row : List ℕ) (w : Row said cap k row) where
+  below-k : {q : ℕ} → q < k → q < length row
+  below-k g = omega (arith, g, h, w .long, t .tabled .sized .routines-to-32)
+
+  pub CALL-in-the-row : {q : ℕ} → l ≡ line.Call q → q < length row
+  CALL-in-the-row f = below-k (CALL-below b c l k j t h s e f)
+
+  pub REPEAT-in-the-row : {g : Reg} {q : ℕ} → l ≡ line.Repeat g q → q < length row
+  REPEAT-in-the-row f = below-k (REPEAT-below b c l k j t h s e f)
+
+-- ---- the length of a line
+
+module _ (b : List ℕ) (c : Counts) (l : Line) (k j : ℕ) (t : Taken-with b c) (h : k < c .routines) (s : j < count b k)
+    (e : line-told l ≡ line-of (fields-in b k j)) (row : List ℕ) (w : Row (flat-length (book-of b)) length-cap k row) where
+  abbrev capped-length : ℕ
+  capped-length = min (line-length (flat-length (book-of b)) (line-of (fields-in b k j))) length-cap
+
+  of-the-line : {m : Line} → l ≡ m → min (line-length (flat-length (book-of b)) (line-told m)) length-cap ≡ capped-length
+  of-the-line f = ap (λ x. min (line-length (flat-length (book-of b)) x) length-cap) (ap line-told (sym f) ∙ e)
+
+  pub INC-length : {g : Reg} → l ≡ line.Inc g → 1 ≡ capped-length
+  unfolding line-length line-told
+  INC-length f = of-the-line f
+
+  pub DEC-length : {g : Reg} {u : RoutineLine} → l ≡ line.Dec g u → 1 ≡ capped-length
+  unfolding line-length line-told
+  DEC-length f = of-the-line f
+
+  pub GO-TO-length : {u : RoutineLine} → l ≡ line.GoTo u → 1 ≡ capped-length
+  unfolding line-length line-told
+  GO-TO-length f = of-the-line f
+
+  pub CALL-length : {q : ℕ} → l ≡ line.Call q → getD row q 0 ≡ capped-length
+  unfolding line-length line-told
+  CALL-length f = w .each _ (CALL-below b c l k j t h s e f) ∙ of-the-line f
+
+  pub REPEAT-length : {g : Reg} {q : ℕ} (n : ℕ) → l ≡ line.Repeat g q → n ≡ min (getD row q 0 + 2) length-cap → n ≡ capped-length
+  unfolding line-length line-told
+  REPEAT-length {q = q} n f d =
+      omega (arith, d, w .each q (REPEAT-below b c l k j t h s e f), of-the-line f)
+
+  pub REPEAT-length-fits : {g : Reg} {q : ℕ} → l ≡ line.Repeat g q → Fits w32 (getD row q 0 + 2)
+  REPEAT-length-fits {q = q} f = record { fits = omega (arith, w .each q (REPEAT-below b c l k j t h s e f)) }
+
+pub part-is : (b : List ℕ) (k m n : ℕ) → m ≡ first-line b k → n ≡ m + k → n ≡ slot b k 0
+unfolding slot
+part-is b k m n e f = omega (arith, e, f)
+
+-- ---- the table of starts
+
+module _ (b : List ℕ) (c : Counts) (k : ℕ) (t : Taken-with b c) (h : k < c .routines) where
+  here : k < routines b
+  here = below-R k (t .tabled .sized) h
+
+  -- The parts of the table lie one behind the other, so no two lines share a slot.
+  same-slot : {r i j : ℕ} → r < routines b → i ≤ count b r → j ≤ count b k → slot b r i ≡ slot b k j → (r ≡ k) × (i ≡ j)
+  unfolding slot
+  same-slot {r} {i} {j} g m n e =
+      let T = taken-book b (t .taken) in
+      ⊎-elim (λ (low : r < k). absurd (omega (arith, m, e, T .in-order r k low here))) (λ (not-low : k ≤ r).
+      ⊎-elim (λ (high : k < r). absurd (omega (arith, n, e, T .in-order k r high g))) (λ (not-high : r ≤ k).
+      let same : r ≡ k = omega arith in
+      let first : first-line b r ≡ first-line b k = ap (first-line b) same in
+      (same, omega (arith, e, first))) (one-holds (below-tells k r))) (one-holds (below-tells r k))
+
+  module _ (j q v : ℕ) (starts : List ℕ) (n : j ≤ count b k) (room : q < length starts) (f : Filled b (slot b k j) starts) (at : q ≡ slot b k j) where
+    one-more-start : v ≡ min (start (book-of b) k j) length-cap → Filled b (slot b k j + 1) (set starts q v)
+    one-more-start e =
+        record { each = λ r i g m low. put r i g m low (ℕ-discrete (slot b r i) q) }
+      where
+        put : (r i : ℕ) → r < routines b → i ≤ count b r → slot b r i < slot b k j + 1 → Dec (slot b r i ≡ q)
+            → getD (set starts q v) (slot b r i) 0 ≡ min (start (book-of b) r i) length-cap
+        put r i g m low (yes same) =
+            let (to-k, to-j) = same-slot g m n (same ∙ at) in
+            rw (same, to-k, to-j) (getD-set-same starts q v 0 room ∙ e)
+        put r i g m low (no other) = getD-set-other starts q (slot b r i) v 0 other ∙ f .each r i g m (omega (arith, low, other, at))
+
+pub line-there : (b : List ℕ) (k j : ℕ) → k < routines b → j < count b k
+    → drop j (routine (book-of b) k) ≡ line-of (fields-in b k j) ∷ drop (suc j) (routine (book-of b) k)
+line-there b k j h s = rw (routine-in-the-book b k h) (stands-in-its-routine b k j s)
+
+-- The first j of routine k's n lines are measured: they are sum lines long, and where each starts is in the table.
+pub record Summing (b : List ℕ) (k n at j sum : ℕ) (starts : List ℕ) : Type 0 where
+  pub upto : j ≤ n
+  pub long : length starts ≡ table-length
+  pub room : at + n < table-length
+  pub so-far : sum ≡ min (start (book-of b) k j) length-cap
+  pub filled : Filled b (slot b k j) starts
+
+pub as-long-as-lent : (xs ys : List ℕ) (i v m : ℕ) → length xs ≡ m → length ys ≡ m → length (set xs i v) ≡ length ys
+as-long-as-lent xs ys i v m e f = length-set xs i v ∙ e ∙ sym f
+
+pub line-is-there : (b : List ℕ) (k n j : ℕ) → n ≡ count b k → j < n → j < count b k
+line-is-there b k n j size h = omega (arith, size, h)
+
+module _ (b : List ℕ) (c : Counts) (k n : ℕ) (t : Taken-with b c) (h : k < c .routines) (size : n ≡ count b k) (at : ℕ) (place : at ≡ slot b k 0) where
+  pub nothing-summed : (starts : List ℕ) → length starts ≡ table-length → Filled b (due b k) starts → Summing b k n at 0 0 starts
+  unfolding slot due
+  nothing-summed starts long f =
+      let T = taken-book b (t .taken) in
+      let first : first-line-due b k + k ≡ first-line b k + k + 0 = omega (arith, T .starts-where-due k (here b c k t h)) in
+      record {
+        upto = omega arith;
+        long = long;
+        room = omega (arith, place, size, h, T .ends-within k (here b c k t h), T .header .lines-to-4096, t .tabled .sized .routines-to-32);
+        so-far = rw (first-start (book-of b) k) refl;
+        filled = rw first at f;
+      }
+
+  module _ (j sum : ℕ) (starts : List ℕ) (s : Summing b k n at j sum starts) where
+    slot-j : at + j ≡ slot b k j
+    unfolding slot
+    slot-j = omega (arith, place)
+
+    within : j ≤ count b k
+    within = omega (arith, s .upto, size)
+
+    filled-on : Filled b (slot b k j + 1) (set starts (at + j) sum)
+    filled-on = one-more-start b c k t h j (at + j) sum starts within (omega (arith, s .upto, s .long, s .room)) (s .filled) slot-j (s .so-far)
+
+    pub one-more-summed : (m sum′ : ℕ) → j < n → m ≡ min (line-length (flat-length (book-of b)) (line-of (fields-in b k j))) length-cap
+        → sum′ ≡ min (sum + m) length-cap → Summing b k n at (j + 1) sum′ (set starts (at + j) sum)
+    unfolding slot
+    one-more-summed m sum′ g long more =
+        let stands = line-there b k j (here b c k t h) (rw size at g) in
+        let next : first-line b k + k + j + 1 ≡ first-line b k + k + (j + 1) = omega arith in
+        record {
+          upto = omega (arith, g);
+          long = length-set starts (at + j) sum ∙ s .long;
+          room = s .room;
+          so-far = rw (add-one j) (omega (arith, s .so-far, long, more, next-start (book-of b) k j stands));
+          filled = rw next at filled-on;
+        }
+
+    pub routine-measured : n ≤ j → Measured b k sum (set starts (at + n) sum)
+    unfolding slot due first-line-due
+    routine-measured g =
+        let at-the-end : j ≡ n = omega (arith, g, s .upto) in
+        let ends : first-line b k + k + n + 1 ≡ first-line-due b (k + 1) + (k + 1) = rw (add-one k) (omega (arith, size)) in
+        record {
+          length-is = rw (sym (end-start (book-of b) (taken-callees-below b (t .taken)) k n (rw size (routine-ends b c k t h)))) (rw at-the-end at (s .so-far));
+          filled = rw (sym ends) (rw at-the-end at filled-on);
+        }
+
+-- ---- all of them
+
+-- The routines below k are measured.
+pub record Measuring (b : List ℕ) (R k : ℕ) (lengths starts : List ℕ) : Type 0 where
+  pub upto : k ≤ R
+  pub lengths-are : Row (flat-length (book-of b)) length-cap k lengths
+  pub long : length starts ≡ table-length
+  pub filled : Filled b (due b k) starts
+
+pub nothing-measured : (b : List ℕ) (R : ℕ) (lengths starts : List ℕ) → length lengths ≡ most-routines → length starts ≡ table-length
+    → Measuring b R 0 lengths starts
+unfolding due first-line-due
+nothing-measured b R lengths starts long tall =
+    record {
+      upto = omega arith;
+      lengths-are = empty-row (flat-length (book-of b)) length-cap lengths long;
+      long = tall;
+      filled = record { each = λ r i g m low. absurd (omega (arith, low)) };
+    }
+
+module _ (b : List ℕ) (c : Counts) (t : Taken-with b c) (k : ℕ) (lengths starts : List ℕ) (s : Measuring b (c .routines) k lengths starts) where
+  pub one-more-measured : (n : ℕ) (starts′ : List ℕ) → k < c .routines → Measured b k n starts′ → length starts′ ≡ length starts
+      → Measuring b (c .routines) (k + 1) (set lengths k n) starts′
+  one-more-measured n starts′ h m same =
+      record {
+        upto = omega (arith, h);
+        lengths-are =
+            one-more-routine (flat-length (book-of b)) length-cap lengths k n (s .lengths-are) (omega (arith, h, t .tabled .sized .routines-to-32)) (m .length-is);
+        long = same ∙ s .long;
+        filled = m .filled;
+      }
+
+  pub all-measured : c .routines ≤ k → Measured-all b lengths starts
+  unfolding slot due
+  all-measured h =
+      let R = t .tabled .sized .counts .routines-are in
+      let T = taken-book b (t .taken) in
+      let last : k ≡ routines b = omega (arith, h, s .upto, R) in
+      record {
+        lengths-are = rw last at (s .lengths-are);
+        starts-are = record {
+          long = s .long;
+          each = λ r i g m. s .filled .each r i g m (rw last (omega (arith, g, m, T .ends-within r g, T .last-ends-at-L)));
+        };
+      }
