@@ -3,12 +3,12 @@
 use Prim.Native.Nat.{ℕ, suc, _<_, _≤_}
 use native.Mathlib.Omega.{arith}
 use mathlib.Core.Path.{_≡_, sym, _∙_, ap}
-use mathlib.Core.List.{List, [], _∷_}
-use lib.ListN.{drop, drop-of-length-le}
-use Rattle.scope.specs.Book.{routines, lines, count, line-of, fields-at, fields-in, routine, routine-of, book-of}
+use mathlib.Core.List.{List, _∷_}
+use lib.ListN.{drop}
+use Rattle.scope.specs.Book.{routines, lines, count, line-of, fields-at, fields-in, routine, book-of}
 use Rattle.scope.specs.Steps.{register-count}
 use Rattle.scope.specs.Running.{instruction-of, program-of}
-use Rattle.scope.proofs.TakenBook.{Line-fits, INC-fits, DEC-fits, GO-TO-fits, CALL-fits, REPEAT-fits, taken-book, taken-line-fits, routine-in-the-book, length-routine-of, stands-in-its-routine}
+use Rattle.scope.proofs.TakenBook.{Line-fits, INC-fits, DEC-fits, GO-TO-fits, CALL-fits, REPEAT-fits, taken-book, taken-line-fits, line-in-the-book}
 use Rattle.scope.proofs.TakenProgram.{program-stands}
 use Rattle.book.specs.declared.header.Counts.{Counts}
 use Rattle.book.specs.declared.lines.Reg.{Reg}
@@ -45,9 +45,7 @@ module _ (b : List ℕ) (c : Counts) (l : Line) (r j : ℕ) (t : Taken-with b c)
 
   -- It stands at j in its routine of the book that the bytes say.
   pub read-line-stands : drop j (routine (book-of b) r) ≡ line-told l ∷ drop (suc j) (routine (book-of b) r)
-  read-line-stands =
-      rw (routine-in-the-book b r here)
-      (stands-in-its-routine b r j s ∙ ap (λ m. m ∷ drop (suc j) (routine-of b r)) (sym e))
+  read-line-stands = line-in-the-book b r j here s ∙ ap (λ m. m ∷ drop (suc j) (routine (book-of b) r)) (sym e)
 
   pub line-fits : {m : Line} → l ≡ m → Fits-line r (count b r) m
   line-fits k =
@@ -81,12 +79,6 @@ module _ (b : List ℕ) (c : Counts) (l : Line) (r j : ℕ) (t : Taken-with b c)
   pub REPEAT-below : {g : Reg} {q : ℕ} → l ≡ Repeat g q → q < r
   unfolding Fits-line
   REPEAT-below k = line-fits k .1
-
--- Behind its last line a routine has none.
-pub routine-ends : (b : List ℕ) (c : Counts) (r : ℕ) → Taken-with b c → r < c .routines → drop (count b r) (routine (book-of b) r) ≡ []
-routine-ends b c r t h =
-    rw (routine-in-the-book b r (below-R r (t .tabled .sized) h))
-    (drop-of-length-le _ {i = count b r} (omega (arith, length-routine-of b r)))
 
 -- ---- a line of a flat book
 

@@ -15,7 +15,7 @@ use Rattle.scope.specs.Flattening.{most-open, deepest, depth-by, depth}
 use Rattle.scope.proofs.Verdicts.{one-holds, above-tells}
 use Rattle.scope.proofs.Lists.{nothing-stands}
 use Rattle.scope.proofs.Lowest.{depth-by-the-rule}
-use Rattle.scope.proofs.TakenBook.{taken-callees-below, routine-in-the-book, length-routine-of}
+use Rattle.scope.proofs.TakenBook.{taken-callees-below, line-in-the-book, routine-in-the-book, length-routine-of}
 use Rattle.book.specs.declared.header.Counts.{Counts}
 use Rattle.book.specs.declared.lines.Reg.{Reg}
 use Rattle.book.specs.declared.lines.RoutineLine.{RoutineLine}
@@ -26,7 +26,7 @@ use Rattle.book.specs.Asked.{Taken-with}
 use Rattle.book.proofs.Scanned.{below-R}
 use Rattle.book.proofs.Fits.{CALL-below, REPEAT-below}
 use Rattle.flatten.specs.Rows.{depth-cap, Row}
-use Rattle.flatten.proofs.Rows.{line-there, empty-row, one-more-routine}
+use Rattle.flatten.proofs.Rows.{empty-row, one-more-routine}
 
 -- ---- a line
 
@@ -85,7 +85,7 @@ module _ (b : List ℕ) (c : Counts) (k n : ℕ) (t : Taken-with b c) (h : k < c
   pub one-more-looked-at : (m d′ : ℕ) → j < n → m ≡ min (used 0 (depth (book-of b)) (line-of (fields-in b k j))) depth-cap → d′ ≡ max d m
       → Deepest-to b k n (j + 1) d′
   one-more-looked-at m d′ g e f =
-      let next = deepest-to-the-next (depth (book-of b)) (routine (book-of b) k) j (line-there b k j here (rw size at g)) in
+      let next = deepest-to-the-next (depth (book-of b)) (routine (book-of b) k) j (line-in-the-book b k j here (rw size at g)) in
       record {
         upto = omega (arith, g);
         so-far = rw (add-one j) (omega (arith, s .so-far, e, f, next));

@@ -1,8 +1,8 @@
 -- What stands in a row of routines, and in the table of starts, while they are filled from the lowest routine up.
 -- A routine uses lower ones only, so what it looks up is there; the parts of the table lie one behind the other. Assumes nothing.
-use mir.Syntax.{w32}
+use mir.Syntax.{w32, w64}
 use mir.Val.{Fits}
-use Prim.Native.Nat.{ℕ, zero, suc, _+_, _<_, _≤_, min}
+use Prim.Native.Nat.{ℕ, suc, _+_, _*_, _<_, _≤_, min}
 use native.Mathlib.Omega.{arith}
 use native.Mathlib.Decide.{ℕ-discrete}
 use native.Mathlib.Numerals.{add-one}
@@ -11,10 +11,10 @@ use mathlib.Core.Logic.{⊎-elim}
 use mathlib.Core.List.{List, [], _∷_}
 use lib.ListN.{length, getD, set, length-set, drop}
 use lib.Seq.{getD-set-same, getD-set-other}
-use Rattle.scope.specs.Book.{most-routines, routines, lines, first-line, first-line-due, count, line-of, fields-in, routine, book-of}
+use Rattle.scope.specs.Book.{most-routines, routines, line-table-due, length-due, first-line, first-line-due, count, line-of, fields-in, routine, book-of}
 use Rattle.scope.specs.Flattening.{line-length, flat-length, start}
 use Rattle.scope.proofs.Verdicts.{one-holds, below-tells}
-use Rattle.scope.proofs.TakenBook.{taken-book, taken-callees-below, routine-in-the-book, stands-in-its-routine}
+use Rattle.scope.proofs.TakenBook.{taken-book, taken-callees-below, line-in-the-book, routine-ends}
 use Rattle.scope.proofs.FlatLines.{first-start, next-start, end-start}
 use Rattle.book.specs.declared.header.Counts.{Counts}
 use Rattle.book.specs.declared.lines.Reg.{Reg}
@@ -22,10 +22,10 @@ use Rattle.book.specs.declared.lines.RoutineLine.{RoutineLine}
 use Rattle.book.specs.declared.lines.Line.{Line}
 use Rattle.book.specs.declared.lines.Line.the-variants as line
 use Rattle.book.specs.Told.{line-told}
-use Rattle.book.specs.Asked.{Taken-with}
+use Rattle.book.specs.Asked.{Taken-with, Entry-within}
 use Rattle.book.proofs.Scanned.{below-R}
-use Rattle.book.proofs.Fits.{CALL-below, REPEAT-below, routine-ends}
-use Rattle.flatten.specs.Rows.{length-cap, Row, slot, due, table-length, Filled, Measured, Measured-all}
+use Rattle.book.proofs.Fits.{CALL-below, REPEAT-below}
+use Rattle.flatten.specs.Rows.{length-cap, Row, slot, due, table-length, Filled, Measured, Table, Measured-all}
 
 -- ---- a row
 
@@ -120,10 +120,6 @@ module _ (b : List ℕ) (c : Counts) (k : ℕ) (t : Taken-with b c) (h : k < c .
             rw (same, to-k, to-j) (getD-set-same starts q v 0 room ∙ e)
         put r i g m low (no other) = getD-set-other starts q (slot b r i) v 0 other ∙ f .each r i g m (omega (arith, low, other, at))
 
-pub line-there : (b : List ℕ) (k j : ℕ) → k < routines b → j < count b k
-    → drop j (routine (book-of b) k) ≡ line-of (fields-in b k j) ∷ drop (suc j) (routine (book-of b) k)
-line-there b k j h s = rw (routine-in-the-book b k h) (stands-in-its-routine b k j s)
-
 -- The first j of routine k's n lines are measured: they are sum lines long, and where each starts is in the table.
 pub record Summing (b : List ℕ) (k n at j sum : ℕ) (starts : List ℕ) : Type 0 where
   pub upto : j ≤ n
@@ -167,7 +163,7 @@ module _ (b : List ℕ) (c : Counts) (k n : ℕ) (t : Taken-with b c) (h : k < c
         → sum′ ≡ min (sum + m) length-cap → Summing b k n at (j + 1) sum′ (set starts (at + j) sum)
     unfolding slot
     one-more-summed m sum′ g long more =
-        let stands = line-there b k j (here b c k t h) (rw size at g) in
+        let stands = line-in-the-book b k j (here b c k t h) (rw size at g) in
         let next : first-line b k + k + j + 1 ≡ first-line b k + k + (j + 1) = omega arith in
         record {
           upto = omega (arith, g);
@@ -183,7 +179,7 @@ module _ (b : List ℕ) (c : Counts) (k n : ℕ) (t : Taken-with b c) (h : k < c
         let at-the-end : j ≡ n = omega (arith, g, s .upto) in
         let ends : first-line b k + k + n + 1 ≡ first-line-due b (k + 1) + (k + 1) = rw (add-one k) (omega (arith, size)) in
         record {
-          length-is = rw (sym (end-start (book-of b) (taken-callees-below b (t .taken)) k n (rw size (routine-ends b c k t h)))) (rw at-the-end at (s .so-far));
+          length-is = rw (sym (end-start (book-of b) (taken-callees-below b (t .taken)) k n (rw size (routine-ends b k (here b c k t h))))) (rw at-the-end at (s .so-far));
           filled = rw (sym ends) (rw at-the-end at filled-on);
         }
 
@@ -228,7 +224,38 @@ module _ (b : List ℕ) (c : Counts) (t : Taken-with b c) (k : ℕ) (lengths sta
       record {
         lengths-are = rw last at (s .lengths-are);
         starts-are = record {
+          taken = t .taken;
           long = s .long;
           each = λ r i g m. s .filled .each r i g m (rw last (omega (arith, g, m, T .ends-within r g, T .last-ends-at-L)));
         };
       }
+
+-- ---- reading the table
+
+module _ (b starts : List ℕ) (T : Table b starts) (k i : ℕ) (h : k < routines b) where
+  pub entry-there : Entry-within b k
+  unfolding length-due line-table-due
+  entry-there = record { in-the-bytes = omega (arith, h, taken-book b (T .taken) .header .length-as-due) }
+
+  module _ (at : ℕ) (place : at ≡ slot b k 0) (s : i ≤ count b k) where
+    slot-i : slot b k i ≡ at + i
+    unfolding slot
+    slot-i = omega (arith, place)
+
+    pub start-there : at + i < length starts
+    unfolding slot
+    start-there =
+        let B = taken-book b (T .taken) in
+        omega (arith, place, s, h, T .long, B .ends-within k h, B .header .routines-to-32, B .header .lines-to-4096)
+
+    pub slot-fits : Fits w64 (at + i)
+    slot-fits = record { fits = omega (arith, start-there, T .long) }
+
+    pub slot-bytes-fit : Fits w64 ((at + i) * 4)
+    slot-bytes-fit = record { fits = omega (arith, start-there, T .long) }
+
+    pub start-read : getD starts (at + i) 0 ≡ min (start (book-of b) k i) length-cap
+    start-read = rw slot-i at (T .each k i h s)
+
+    pub start-fits : Fits w64 (getD starts (at + i) 0)
+    start-fits = record { fits = omega (arith, start-read) }

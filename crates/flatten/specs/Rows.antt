@@ -4,7 +4,7 @@ use Prim.Native.Nat.{ℕ, _+_, _<_, _≤_, min}
 use mathlib.Core.Path.{_≡_}
 use mathlib.Core.List.{List}
 use lib.ListN.{length, getD}
-use Rattle.scope.specs.Book.{most-routines, most-lines, routines, first-line, first-line-due, count, book-of}
+use Rattle.scope.specs.Book.{most-routines, most-lines, routines, first-line, first-line-due, count, Taken, book-of}
 use Rattle.scope.specs.Flattening.{flat-length, start, most-flat-lines, most-open}
 
 -- Lengths stop above 4,096, depths above 32: the tests of 13 and 11 tell no more.
@@ -40,8 +40,9 @@ pub record Measured (b : List ℕ) (k n : ℕ) (starts : List ℕ) : Type 0 wher
   pub length-is : n ≡ min (flat-length (book-of b) k) length-cap
   pub filled : Filled b (due b (k + 1)) starts
 
--- All are there.
+-- All are there, of a book that is taken.
 pub record Table (b : List ℕ) (starts : List ℕ) : Type 0 where
+  pub taken : Taken b
   pub long : length starts ≡ table-length
   pub each : (r i : ℕ) → r < routines b → i ≤ count b r → getD starts (slot b r i) 0 ≡ min (start (book-of b) r i) length-cap
 

@@ -1,11 +1,11 @@
 // How long each routine is when it is flattened, and where each of its lines starts: from the lowest routine up.
 ghost use mathlib.Core.Path.{_≡_};
-ghost use Prim.Native.Nat.{_+_, _<_, min};
-ghost use Rattle.scope.specs.Book.{count, line-of, fields-in, book-of};
-ghost use Rattle.scope.specs.Flattening.{line-length, flat-length};
+ghost use Prim.Native.Nat.{_+_, _<_, _≤_, min};
+ghost use Rattle.scope.specs.Book.{routines, count, line-of, fields-in, book-of};
+ghost use Rattle.scope.specs.Flattening.{line-length, flat-length, start};
 ghost use lib.ListN.{length};
 ghost use Rattle.book.specs.Asked.{Taken-with, Entry-within};
-ghost use Rattle.flatten.specs.Rows.{length-cap, Row, slot, due, table-length, Filled, Measured, Measured-all};
+ghost use Rattle.flatten.specs.Rows.{length-cap, Row, slot, due, table-length, Filled, Measured, Table, Measured-all};
 use book::header::Counts;
 use book::header::MOST_LINES;
 use book::header::MOST_ROUTINES;
@@ -55,7 +55,7 @@ fn line_length(b: &[u8], counts: Counts, k: u16, j: RoutineLine, lengths: &[u32]
 }
 
 // Where the starts of routine k's lines stand in the table, and behind them its end's.
-pub(crate) fn part(b: &[u8], k: u16) -> usize
+fn part(b: &[u8], k: u16) -> usize
     requires { ⌜ Entry-within (now b) k ⌝ }
     ensures { λ r. ⌜ r ≡ slot (now (b .entry)) k 0 ⌝ }
 {
@@ -102,4 +102,14 @@ pub(crate) fn measured(b: &[u8], counts: Counts, starts: &mut [u32]) -> [u32; RO
         k += 1;
     }
     lengths
+}
+
+// Where line i of routine k starts, or its end, as it stands in the table.
+pub(crate) fn start_of(b: &[u8], starts: &[u32], k: u16, i: RoutineLine) -> usize
+    requires { ⌜ Table (now b) (now starts) ⌝ }
+    requires { ⌜ k < routines (now b) ⌝ }
+    requires { ⌜ i .0 ≤ count (now b) k ⌝ }
+    ensures { λ r. ⌜ r ≡ min (start (book-of (now (b .entry))) k (i .0)) length-cap ⌝ }
+{
+    starts[part(b, k) + i.0 as usize] as usize
 }

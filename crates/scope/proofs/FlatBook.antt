@@ -4,7 +4,7 @@ use Prim.Native.Nat.{ℕ, zero, suc, _+_, _<_, _≤_}
 use native.Mathlib.Omega.{arith}
 use mathlib.Core.Path.{_≡_, refl, _∙_, ap}
 use mathlib.Core.List.{List, [], _∷_, _++_}
-use lib.ListN.{length, take, drop}
+use lib.ListN.{length, drop}
 use Rattle.scope.specs.Ram as ram
 use Rattle.scope.specs.Ram.{Instruction, Program, Has, has, Target-within, Targets-within}
 use Rattle.scope.specs.Book.{Bytes, routines, Line, Book, routine, Callees-below, Taken, book-of}
@@ -15,7 +15,7 @@ use Rattle.scope.specs.Transitions.{Register-within, Registers-within}
 use Rattle.scope.specs.Steps.{register-count}
 use Rattle.scope.proofs.Lists.{nothing-stands}
 use Rattle.scope.proofs.Lowest.{flat-length-by-the-rule, copy-by-the-rule}
-use Rattle.scope.proofs.FlatLines.{length-flat-program}
+use Rattle.scope.proofs.FlatLines.{length-flat-program, start-within}
 use Rattle.scope.proofs.TakenBook.{Line-fits, INC-fits, DEC-fits, GO-TO-fits, CALL-fits, REPEAT-fits, taken-book, taken-lines-fit, taken-callees-below}
 use Rattle.scope.proofs.Depth.{no-more-than-32-open}
 use Rattle.scope.proofs.TakenProgram.{length-program-of}
@@ -45,19 +45,9 @@ each-fits (suc p) (one-more h f) e = each-fits p f e
 
 -- ---- a copy fits
 
-up-to-a-line : (f : Line → ℕ) (ls : List Line) (i : ℕ) → sum-of f (take i ls) ≤ sum-of f ls
-unfolding sum-of
-up-to-a-line f ls zero = omega arith
-up-to-a-line f [] (suc i) = omega arith
-up-to-a-line f (l ∷ ls) (suc i) = omega (arith, up-to-a-line f ls i)
-
 -- of a book whose lines fit
 module _ (book : Book) (ok : Callees-below book)
     (each : (k j : ℕ) (l : Line) (rest : List Line) → drop j (routine book k) ≡ l ∷ rest → Line-fits k (length (routine book k)) l) where
-  start-within : (k i : ℕ) → start book k i ≤ flat-length book k
-  unfolding start length-by
-  start-within k i = rw (flat-length-by-the-rule book ok k) (up-to-a-line (line-length (flat-length book)) (routine book k) i)
-
   -- the copies of the routines below k fit, wherever they end within n
   abbrev Copies-below-fit : (k n : ℕ) → Type 0
   Copies-below-fit k n = (c q : ℕ) → c < k → q + flat-length book c ≤ n → All-fit n (copy book c q)
@@ -67,9 +57,9 @@ module _ (book : Book) (ok : Callees-below book)
   unfolding copy-line line-length Register-within Target-within
   line-fits k a p n m (INC-fits {r} small) below h g = one-more {x = ram.INC r} (record { register-right = omega arith; target-right = tt }) none
   line-fits k a p n m (DEC-fits {r} {t} small _) below h g =
-      one-more {x = ram.DEC r (a + start book k t)} (record { register-right = omega arith; target-right = omega (arith, start-within k t) }) none
+      one-more {x = ram.DEC r (a + start book k t)} (record { register-right = omega arith; target-right = omega (arith, start-within book ok k t) }) none
   line-fits k a p n m (GO-TO-fits {t} _) below h g =
-      one-more {x = ram.GO-TO (a + start book k t)} (record { register-right = tt; target-right = omega (arith, start-within k t) }) none
+      one-more {x = ram.GO-TO (a + start book k t)} (record { register-right = tt; target-right = omega (arith, start-within book ok k t) }) none
   line-fits k a p n m (CALL-fits {c} lower) below h g = below c p lower g
   line-fits k a p n m (REPEAT-fits {r} {c} small lower) below h g =
       one-more {x = ram.DEC r (p + flat-length book c + 2)} (record { register-right = omega arith; target-right = omega arith })

@@ -1,11 +1,12 @@
 -- What stands where in a flat program: a copy is as long as the lengths say, and each line's copy stands where the line starts.
 -- A copy is its lines' copies one after another, so a line's copy stands behind the sum of the lengths before it.
-use Prim.Native.Nat.{ℕ, zero, suc, _+_}
+use Prim.Native.Nat.{ℕ, zero, suc, _+_, _≤_}
 use native.Mathlib.Omega.{arith}
 use mathlib.Core.Path.{_≡_, refl, sym, _∙_, ap}
 use mathlib.Core.List.{List, [], _∷_, _++_, append-assoc, cons≢nil}
 use lib.ListN.{length, take, drop, length-append}
 use lib.Seq.{take-nil, drop-drop, drop-append-seam}
+use Rattle.scope.specs.Ram as ram
 use Rattle.scope.specs.Ram.{Program}
 use Rattle.scope.specs.Book.{Line, INC, DEC, GO-TO, CALL, REPEAT, Book, routine, Callees-below, said-below, from-the-lowest-up}
 use Rattle.scope.specs.Flattening.{line-length, sum-of, length-by, flat-length, start, copy-line, copy-lines, copy-by, copy, flat-program}
@@ -28,6 +29,12 @@ module _ (of-line : Line → ℕ) where
   sum-to-the-end [] i e = ap (sum-of of-line) (take-nil i)
   sum-to-the-end (x ∷ ls) zero e = absurd (cons≢nil e)
   sum-to-the-end (x ∷ ls) (suc i) e = omega (arith, sum-to-the-end ls i e)
+
+  up-to-a-line : (ls : List Line) (i : ℕ) → sum-of of-line (take i ls) ≤ sum-of of-line ls
+  unfolding sum-of
+  up-to-a-line ls zero = omega arith
+  up-to-a-line [] (suc i) = omega arith
+  up-to-a-line (l ∷ ls) (suc i) = omega (arith, up-to-a-line ls i)
 
 -- ---- a copy is as long as the lengths say
 
@@ -109,6 +116,11 @@ module _ (book : Book) (ok : Callees-below book) where
   unfolding start length-by
   end-start k i e = sum-to-the-end (line-length (flat-length book)) (routine book k) i e ∙ sym (flat-length-by-the-rule book ok k)
 
+  -- and no line starts behind it
+  pub start-within : (k i : ℕ) → start book k i ≤ flat-length book k
+  unfolding start length-by
+  start-within k i = rw (flat-length-by-the-rule book ok k) (up-to-a-line (line-length (flat-length book)) (routine book k) i)
+
   lines-stand : {P : Program} {l : Line} {rest : List Line} (k b q p : ℕ) (ls : List Line) (i : ℕ)
       → Stands P q (copy-lines book (copy book) k b q ls) → drop i ls ≡ l ∷ rest → p ≡ q + sum-of (line-length (flat-length book)) (take i ls)
       → Stands P p (copy-line book (copy book) k b p l)
@@ -131,3 +143,23 @@ module _ (book : Book) (ok : Callees-below book) where
       → Stands P p (copy-line book (copy book) k b p l)
   unfolding start copy-by
   line-stands {b = b} {p = p} k i s e a = lines-stand k b b p (routine book k) i (rw (copy-by-the-rule book ok k) at s) e a
+
+-- ---- what a REPEAT leaves
+
+module _ (book : Book) {P : Program} (k b p r c : ℕ) (s : Stands P p (copy-line book (copy book) k b p (REPEAT r c))) where
+  -- DEC j to p+s+2, ..
+  pub repeat-looks : Stands P p (ram.DEC r (p + flat-length book c + 2) ∷ [])
+  unfolding copy-line
+  repeat-looks = front-stands (ram.DEC r (p + flat-length book c + 2) ∷ []) (copy book c (p + 1) ++ (ram.GO-TO p ∷ [])) s
+
+  behind-the-look : Stands P (p + 1) (copy book c (p + 1) ++ (ram.GO-TO p ∷ []))
+  unfolding copy-line
+  behind-the-look = rest-stands (ram.DEC r (p + flat-length book c + 2) ∷ []) (copy book c (p + 1) ++ (ram.GO-TO p ∷ [])) (p + 1) s refl
+
+  -- .. the copy from p+1, ..
+  pub repeated-copy-stands : Stands P (p + 1) (copy book c (p + 1))
+  repeated-copy-stands = front-stands (copy book c (p + 1)) (ram.GO-TO p ∷ []) behind-the-look
+
+  -- .. then GO TO p at p+s+1.
+  pub repeat-goes-back : (q : ℕ) → q ≡ p + flat-length book c + 1 → Stands P q (ram.GO-TO p ∷ [])
+  repeat-goes-back q e = rest-stands (copy book c (p + 1)) (ram.GO-TO p ∷ []) q behind-the-look (omega (arith, e, length-copy book c (p + 1)))

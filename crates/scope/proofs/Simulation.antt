@@ -3,7 +3,7 @@
 use Prim.Native.Nat.{ℕ, suc, _+_}
 use native.Mathlib.Omega.{arith}
 use mathlib.Core.Path.{_≡_, refl, sym, _∙_}
-use mathlib.Core.List.{List, [], _∷_, _++_, append-nil}
+use mathlib.Core.List.{List, [], _∷_, append-nil, _++_}
 use lib.ListN.{drop}
 use lib.Seq.{drop-length}
 use Rattle.scope.specs.Ram as ram
@@ -14,7 +14,7 @@ use Rattle.scope.specs.Nested.{Opened-by, a-CALL, a-REPEAT, Place, due, 
 use Rattle.scope.specs.Flattening.{line-length, flat-length, start, copy-line, copy, flat-program}
 use Rattle.scope.specs.Running.{flat-step, flat-next, flat-run}
 use Rattle.scope.specs.Addresses.{begins, behind-its-start, address, Same-end}
-use Rattle.scope.proofs.FlatLines.{length-copy, length-flat-program, first-start, next-start, Stands, front-stands, rest-stands, line-stands}
+use Rattle.scope.proofs.FlatLines.{length-flat-program, first-start, next-start, Stands, line-stands, repeat-looks, repeated-copy-stands, repeat-goes-back}
 use Rattle.scope.proofs.Lockstep.{Same-next, both-at-the-end, both-go, both-add-one, both-take-one-off, lockstep}
 use Rattle.scope.proofs.Places.{does-inc, does-dec, does-go-to, does-look, does-go-back, Is-open, the-asked, called, repeated, Reached, the-end, a-step, Reached-at, settle-keeps-address}
 
@@ -23,16 +23,8 @@ module _ (book : Book) (ok : Callees-below book) (asked : ℕ) where
   abbrev Stands-for : ℕ → Place → Type 0
   Stands-for p place = Reached-at book asked place p
 
-  -- the flat program of the asked routine, and what a REPEAT leaves at p over routine c
   abbrev flat : Program
   flat = flat-program book asked
-
-  abbrev repeat : (p r c : ℕ) → Program
-  repeat p r c = ram.DEC r (p + flat-length book c + 2) ∷ (copy book c (p + 1) ++ (ram.GO-TO p ∷ []))
-
-  repeated-copy-stands :
-      {p q : ℕ} (r c : ℕ) → Stands flat p (repeat p r c) → q ≡ p + 1 → Stands flat q (copy book c (p + 1) ++ (ram.GO-TO p ∷ []))
-  repeated-copy-stands {p} {q} r c s e = rest-stands (ram.DEC r (p + flat-length book c + 2) ∷ []) (copy book c (p + 1) ++ (ram.GO-TO p ∷ [])) q s e
 
   -- The copy of an open routine stands where it begins.
   copy-stands :
@@ -42,7 +34,7 @@ module _ (book : Book) (ok : Callees-below book) (asked : ℕ) where
   copy-stands {around = a-CALL k i ∷ around} (called e o) = line-stands book ok k i (copy-stands o) e refl
   copy-stands {around = a-REPEAT k i ∷ around} (repeated {r = r} {c = c} e o) =
       let p = begins book around + start book k i in
-      front-stands (copy book c (p + 1)) (ram.GO-TO p ∷ []) (repeated-copy-stands r c (line-stands book ok k i (copy-stands o) e refl) refl)
+      repeated-copy-stands book k (begins book around) p r c (line-stands book ok k i (copy-stands o) e refl)
 
   -- What a line of an open routine left stands at its address.
   left-stands :
@@ -78,15 +70,15 @@ module _ (book : Book) (ok : Callees-below book) (asked : ℕ) where
       rw (flat-next-there rs (ram.GO-TO (begins book around + start book k t)) [] (left-stands i p e o (omega arith)))
       (both-go (settle-keeps-address book ok asked k t around o refl))
   same-next-at {place = due d k i around} p rs (a-step e (does-look {r = r} {c = c}) o) a =
-      rw (flat-next-there rs (ram.DEC r (p + flat-length book c + 2)) (copy book c (p + 1) ++ (ram.GO-TO p ∷ [])) (left-stands i p e o (omega arith)))
+      let s = repeat-looks book k (begins book around) p r c (left-stands i p e o (omega arith)) in
+      rw (flat-next-there rs (ram.DEC r (p + flat-length book c + 2)) [] s)
       (both-take-one-off Stands-for r rs
       (settle-keeps-address book ok asked c 0 (a-REPEAT k i ∷ around) (repeated e o) (omega (arith, first-start book c)))
       (goes-on i (p + flat-length book c + 2) e o (omega arith)))
   same-next-at {place = due d k i around} p rs (a-step e (does-go-back {r = r} {c = c}) o) a =
       let q = begins book around + start book k i in
-      let s = repeated-copy-stands r c (left-stands i q e o refl) refl in
-      let t = rest-stands (copy book c (q + 1)) (ram.GO-TO q ∷ []) p s (omega (arith, length-copy book c (q + 1))) in
-      rw (flat-next-there rs (ram.GO-TO q) [] t) (both-go (settle-keeps-address book ok asked k i around o refl))
+      let s = repeat-goes-back book k (begins book around) q r c (left-stands i q e o refl) p (omega arith) in
+      rw (flat-next-there rs (ram.GO-TO q) [] s) (both-go (settle-keeps-address book ok asked k i around o refl))
 
   same-next :
       (p : ℕ) (place : Place) (rs : Registers) → Stands-for p place → Same-next Stands-for (flat-next flat p rs) (nested-next book place rs)

@@ -5,7 +5,7 @@ use native.Mathlib.Omega.{arith}
 use mathlib.Core.Path.{_≡_, refl, sym, _∙_, ap}
 use mathlib.Core.Logic.{inl, inr, ⊎-elim}
 use mathlib.Core.List.{List, [], _∷_}
-use lib.ListN.{length, drop, List·getD-eq-default}
+use lib.ListN.{length, drop, drop-of-length-le, List·getD-eq-default}
 use Rattle.scope.specs.Words.{if, listed}
 use Rattle.scope.specs.Refusals.{pass}
 use Rattle.scope.specs.Book.{the-format, header-bytes, format, routine-table, line-table, line-table-due, most-routines, most-lines, last-register, routines, lines, stated-length, length-due, first-line, count, first-line-due, Line-fields, Line, INC, DEC, GO-TO, CALL, REPEAT, INC-kind, DEC-kind, GO-TO-kind, CALL-kind, REPEAT-kind, fields-of, line-of, fields-in, header-verdict, table-verdict, book-verdict, Taken, routine, routine-of, book-of, Line-uses, by-CALL, by-REPEAT, Callees-below}
@@ -156,6 +156,15 @@ pub stands-in-its-routine : (b : List ℕ) (r j : ℕ) → j < count b r
     → drop j (routine-of b r) ≡ line-of (fields-in b r j) ∷ drop (suc j) (routine-of b r)
 unfolding routine-of
 stands-in-its-routine b r j h = listed-stands (λ i. line-of (fields-in b r i)) (count b r) j h
+
+-- In the book that the bytes say line j stands at j in its routine, and behind its last line a routine has none.
+pub line-in-the-book : (b : List ℕ) (k j : ℕ) → k < routines b → j < count b k
+    → drop j (routine (book-of b) k) ≡ line-of (fields-in b k j) ∷ drop (suc j) (routine (book-of b) k)
+line-in-the-book b k j h s = rw (routine-in-the-book b k h) (stands-in-its-routine b k j s)
+
+pub routine-ends : (b : List ℕ) (k : ℕ) → k < routines b → drop (count b k) (routine (book-of b) k) ≡ []
+routine-ends b k h =
+    rw (routine-in-the-book b k h) (drop-of-length-le (routine-of b k) {i = count b k} (omega (arith, length-routine-of b k)))
 
 -- What stands in the book at line j of routine k is line j of that routine.
 pub record Stands-in (b : List ℕ) (k j : ℕ) (l : Line) : Type 0 where

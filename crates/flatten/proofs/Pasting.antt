@@ -1,0 +1,381 @@
+-- What stands at a flat line: the line of a copy in which it lies is found by halving, and what that line leaves stands there.
+-- A copy's line leaves its instruction, or a copy deeper down, behind where it starts (`FlatLines` of `scope`). Assumes nothing.
+use mir.Syntax.{w16}
+use mir.Val.{Fits}
+use Prim.Native.Nat.{ℕ, zero, suc, _+_, _-_, _/_, _<_, _≤_, min}
+use native.Mathlib.Omega.{arith}
+use native.Mathlib.Numerals.{add-one}
+use mathlib.Core.Path.{_≡_, refl, sym, _∙_, ap}
+use mathlib.Core.Logic.{_≢_}
+use mathlib.Core.List.{List, [], _∷_, append-nil}
+use lib.ListN.{length, drop}
+use Rattle.scope.specs.Ram as ram
+use Rattle.scope.specs.Ram.{Program, Has, has}
+use Rattle.scope.specs.Book as book
+use Rattle.scope.specs.Book.{Book, most-lines, routines, count, REPEAT, line-of, fields-in, routine, Taken, Line-uses, by-CALL, by-REPEAT, Callees-below, book-of}
+use Rattle.scope.specs.Flattening.{line-length, flat-length, start, copy-line, copy, flat-program, most-flat-lines}
+use Rattle.scope.proofs.TakenBook.{taken-book, taken-callees-below, line-in-the-book, routine-ends}
+use Rattle.scope.proofs.FlatLines.{first-start, next-start, end-start, start-within, Stands, line-stands, repeat-looks, repeated-copy-stands, repeat-goes-back}
+use Rattle.book.specs.declared.header.Counts.{Counts}
+use Rattle.book.specs.declared.lines.Reg.{Reg}
+use Rattle.book.specs.declared.lines.RoutineLine.{RoutineLine}
+use Rattle.book.specs.declared.lines.Line.{Line}
+use Rattle.book.specs.declared.lines.Line.the-variants as line
+use Rattle.book.specs.declared.flat.FlatLine.{FlatLine}
+use Rattle.book.specs.declared.flat.Instruction.{Instruction}
+use Rattle.book.specs.declared.flat.Instruction.the-variants as instruction
+use Rattle.book.specs.Told.{line-told, instruction-told}
+use Rattle.book.specs.Asked.{Taken-with}
+use Rattle.book.proofs.Fits.{DEC-target, GO-TO-target}
+use Rattle.flatten.specs.declared.copying.Place.{Place}
+use Rattle.flatten.specs.declared.copying.Pasted.{Pasted}
+use Rattle.flatten.specs.declared.copying.Inside.{Inside}
+use Rattle.flatten.specs.declared.copying.Inside.the-variants as inside
+use Rattle.flatten.specs.Rows.{length-cap, Table}
+use Rattle.flatten.specs.Copies.{Copy-within, In-the-copy, In-the-line, Starts-at, Has-copy, Lies-in, Comes-to, Pasted-at, Found-there, Deeper-there, Inside-is}
+
+-- ---- starts within 4,096 are the starts themselves
+
+module _ (b starts : List ℕ) (T : Table b starts) (k base : ℕ) (w : Copy-within b k base) where
+  below-the-cap : (i : ℕ) → start (book-of b) k i < length-cap
+  below-the-cap i = omega (arith, w .ends-within, start-within (book-of b) (taken-callees-below b (T .taken)) k i)
+
+  pub moved-is : (i v u : ℕ) → v ≡ min (start (book-of b) k i) length-cap → u ≡ base + v → u ≡ base + start (book-of b) k i
+  moved-is i v u e f = omega (arith, e, f, below-the-cap i)
+
+-- ---- the line in which a flat line lies
+
+-- x, counted from where the copy begins, lies between where two lines start.
+pub record Between (b : List ℕ) (k x low high : ℕ) : Type 0 where
+  pub apart : low < high
+  pub within : high ≤ count b k
+  pub small : count b k ≤ most-lines
+  pub as-they-are : (i : ℕ) → start (book-of b) k i < length-cap
+  pub from : start (book-of b) k low ≤ x
+  pub to : x < start (book-of b) k high
+
+module _ (b : List ℕ) (k x low high : ℕ) (s : Between b k x low high) (on : low + 1 < high) (middle : ℕ) (half : middle ≡ (low + high) / 2) where
+  pub middle-there : middle ≤ count b k
+  middle-there = omega (arith, half, on, s .within)
+
+  module _ (v : ℕ) (e : v ≡ min (start (book-of b) k middle) length-cap) where
+    pub lower-half : x < v → Between b k x low middle
+    lower-half h =
+        record {
+          apart = omega (arith, half, on);
+          within = middle-there;
+          small = s .small;
+          as-they-are = s .as-they-are;
+          from = s .from;
+          to = omega (arith, e, h);
+        }
+
+    pub upper-half : v ≤ x → Between b k x middle high
+    upper-half h =
+        record {
+          apart = omega (arith, half, on);
+          within = s .within;
+          small = s .small;
+          as-they-are = s .as-they-are;
+          from = omega (arith, e, h, s .as-they-are middle);
+          to = s .to;
+        }
+
+module _ (b starts : List ℕ) (T : Table b starts) (k base p : ℕ) (w : In-the-copy b k base p) (x : ℕ) (from-base : x ≡ p - base) where
+  pub whole-copy : (high : ℕ) → high ≡ count b k → Between b k x 0 high
+  whole-copy high size =
+      let g = w .copy-within .a-routine in
+      let B = taken-book b (T .taken) in
+      let end = rw (sym size) at (end-start (book-of b) (taken-callees-below b (T .taken)) k (count b k) (routine-ends b k g)) in
+      let first = first-start (book-of b) k in
+      record {
+        apart = above-0 high end;
+        within = omega (arith, size);
+        small = omega (arith, B .ends-within k g, B .header .lines-to-4096);
+        as-they-are = below-the-cap b starts T k base (w .copy-within);
+        from = omega (arith, first);
+        to = omega (arith, end, from-base, w .from, w .to);
+      }
+    where
+      above-0 : (high : ℕ) → start (book-of b) k high ≡ flat-length (book-of b) k → 0 < high
+      above-0 zero e = absurd (omega (arith, e, first-start (book-of b) k, w .from, w .to))
+      above-0 (suc high) e = omega arith
+
+  pub line-is-around : (low high : ℕ) → Between b k x low high → high ≤ low + 1 → In-the-line b k base low p
+  line-is-around low high s h =
+      let next : high ≡ low + 1 = omega (arith, h, s .apart) in
+      record {
+        copy-within = w .copy-within;
+        a-line = omega (arith, s .apart, s .within);
+        from = omega (arith, s .from, from-base, w .from);
+        to = omega (arith, rw next at (s .to), from-base, w .from);
+      }
+
+-- ---- what stands there
+
+module _ (b : List ℕ) (t : Taken b) (at : Place) (p : ℕ) (w : In-the-line b (at .routine) (at .base .0) (at .line .0) p) where
+  abbrev B : Book
+  B = book-of b
+
+  abbrev k : ℕ
+  k = at .routine
+
+  abbrev base : ℕ
+  base = at .base .0
+
+  abbrev i : ℕ
+  i = at .line .0
+
+  abbrev s : ℕ
+  s = base + start B k i
+
+  abbrev l : book.Line
+  l = line-of (fields-in b k i)
+
+  ok : Callees-below B
+  ok = taken-callees-below b t
+
+  in-its-routine : drop i (routine B k) ≡ l ∷ drop (suc i) (routine B k)
+  in-its-routine = line-in-the-book b k i (w .copy-within .a-routine) (w .a-line)
+
+  ends-at : start B k (i + 1) ≡ start B k i + line-length (flat-length B) l
+  ends-at = ap (start B k) (add-one i) ∙ next-start B k i in-its-routine
+
+  ends-within : s + line-length (flat-length B) l ≤ most-flat-lines
+  ends-within = omega (arith, ends-at, w .copy-within .ends-within, start-within B ok k (i + 1))
+
+  pub line-fits : Fits w16 (i + 1)
+  line-fits =
+      let T = taken-book b t in
+      record { fits = omega (arith, w .a-line, T .ends-within k (w .copy-within .a-routine), T .header .lines-to-4096) }
+
+  pub line-below-most : i < most-lines
+  line-below-most =
+      let T = taken-book b t in
+      omega (arith, w .a-line, T .ends-within k (w .copy-within .a-routine), T .header .lines-to-4096)
+
+  pub next-line-or-end : i + 1 ≤ count b k
+  next-line-or-end = omega (arith, w .a-line)
+
+  module _ (c : Counts) (counted : Taken-with b c) (m : Line) (told : line-told m ≡ l) where
+    here : k < c .routines
+    here = rw (counted .tabled .sized .counts .routines-are) (w .copy-within .a-routine)
+
+    pub DEC-target-there : {g : Reg} {q : RoutineLine} → m ≡ line.Dec g q → q .0 ≤ count b k
+    DEC-target-there e = DEC-target b c m k i counted here (w .a-line) told e
+
+    pub GO-TO-target-there : {q : RoutineLine} → m ≡ line.GoTo q → q .0 ≤ count b k
+    GO-TO-target-there e = GO-TO-target b c m k i counted here (w .a-line) told e
+
+  pub is-REPEAT : (m : Line) → line-told m ≡ l → {g : Reg} {q : ℕ} → m ≡ line.Repeat g q → l ≡ REPEAT (g .0) q
+  unfolding line-told
+  is-REPEAT m told e = sym told ∙ ap line-told e
+
+  leaves : {m : book.Line} (P : Program) → l ≡ m → Has-copy P b k base → Stands P s (copy-line B (copy B) k base s m)
+  leaves P e h = rw e at (line-stands B ok k i h in-its-routine refl)
+
+  -- The place behind the line is where it ends.
+  comes-behind : (P : Program) (next : Place) → next ≡ record { routine = k; base = at .base; line = record { 0 = i + 1 } } → p + 1 ≡ base + start B k (i + 1)
+      → Has-copy P b k base → Comes-to P b next (p + 1)
+  comes-behind P next e there h =
+      rw e (record { starts-at = record { copy-within = w .copy-within; a-line-or-end = next-line-or-end; starts-there = there }; has-copy = h })
+
+  module _ (next : Place) (behind : next ≡ record { routine = k; base = at .base; line = record { 0 = i + 1 } }) (r : Inside) (x : Instruction)
+      (found : r ≡ inside.Stands (record { instruction = x; behind = next })) where
+    -- A line that leaves one instruction.
+    one-left : {m : book.Line} → l ≡ m → line-length (flat-length B) m ≡ 1
+        → ((P : Program) → Has-copy P b k base → Has P s (instruction-told x)) → Inside-is b k base p r
+    unfolding Inside-is
+    one-left e one there =
+        let long = ap (line-length (flat-length B)) e ∙ one in
+        let here : s ≡ p = omega (arith, long, ends-at, w .from, w .to) in
+        rw found
+        (record {
+          pasted = λ P h. record {
+            stands = rw here at (there P h);
+            behind-it = comes-behind P next behind (omega (arith, long, ends-at, here)) h;
+          };
+        })
+
+    module _ (c : Line) (told : line-told c ≡ l) where
+      pub INC-found : {g : Reg} → c ≡ line.Inc g → x ≡ instruction.Inc g → Inside-is b k base p r
+      unfolding line-told line-length copy-line instruction-told
+      INC-found e f =
+          let m = sym told ∙ ap line-told e in
+          one-left m refl (λ P h. rw f (has (leaves P m h .there)))
+
+      pub DEC-found : {g : Reg} {q : RoutineLine} (u : FlatLine) → c ≡ line.Dec g q → u .0 ≡ base + start B k (q .0) → x ≡ instruction.Dec g u
+          → Inside-is b k base p r
+      unfolding line-told line-length copy-line instruction-told
+      DEC-found u e moved f =
+          let m = sym told ∙ ap line-told e in
+          one-left m refl (λ P h. rw (f, moved) (has (leaves P m h .there)))
+
+      pub GO-TO-found : {q : RoutineLine} (u : FlatLine) → c ≡ line.GoTo q → u .0 ≡ base + start B k (q .0) → x ≡ instruction.GoTo u
+          → Inside-is b k base p r
+      unfolding line-told line-length copy-line instruction-told
+      GO-TO-found u e moved f =
+          let m = sym told ∙ ap line-told e in
+          one-left m refl (λ P h. rw (f, moved) (has (leaves P m h .there)))
+
+  -- What a line uses is lower, and its copy lies within this one.
+  module _ (q : ℕ) (u : ℕ) (uses : Line-uses l q) (inner : u + flat-length B q ≤ most-flat-lines) where
+    lower : q < k
+    unfolding Callees-below
+    lower = ok k q (record { at-line = i; line = l; rest = drop (suc i) (routine B k); stands = in-its-routine; line-uses = uses })
+
+    inner-within : Copy-within b q u
+    inner-within = record { a-routine = omega (arith, lower, w .copy-within .a-routine); ends-within = inner }
+
+    -- the copy of routine q that begins at u
+    deeper : (body : Place) → body .routine ≡ q → body .base .0 ≡ u → u ≤ p → p < u + flat-length B q
+        → ((P : Program) → Has-copy P b k base → Has-copy P b q u) → Inside-is b k base p (inside.Deeper body)
+    unfolding Inside-is
+    deeper body e f from to there =
+        rw (e, f) (record { lower = lower; in-the-copy = record { copy-within = inner-within; from = from; to = to }; has-copy = there })
+
+  pub CALL-found : (c : Line) → line-told c ≡ l → {q : ℕ} (u : FlatLine) (body : Place) → c ≡ line.Call q → u .0 ≡ base + start B k i
+      → body ≡ record { routine = q; base = u; line = record { 0 = 0 } } → Inside-is b k base p (inside.Deeper body)
+  unfolding line-told line-length copy-line
+  CALL-found c told {q} u body e moved f =
+      let m : l ≡ book.CALL q = sym told ∙ ap line-told e in
+      let long : line-length (flat-length B) l ≡ flat-length B q = ap (line-length (flat-length B)) m in
+      deeper q s (rw m by-CALL) (omega (arith, long, ends-within)) body (ap (λ (y : Place). y .routine) f)
+      (ap (λ (y : Place). y .base .0) f ∙ moved) (w .from) (omega (arith, long, ends-at, w .to)) (λ P h. leaves P m h)
+
+  -- ---- a REPEAT
+
+  module _ (g : Reg) (q : ℕ) (repeats : l ≡ REPEAT (g .0) q) (u : FlatLine) (starts : u .0 ≡ base + start B k i) where
+    long : line-length (flat-length B) l ≡ flat-length B q + 2
+    unfolding line-length
+    long = ap (line-length (flat-length B)) repeats
+
+    uses : Line-uses l q
+    uses = rw repeats by-REPEAT
+
+    inner : s + 1 + flat-length B q ≤ most-flat-lines
+    inner = omega (arith, long, ends-within)
+
+    module _ (v : FlatLine) (ends : v .0 ≡ base + start B k (i + 1)) where
+      pub REPEAT-goes-back : (next : Place) → next ≡ record { routine = k; base = at .base; line = record { 0 = i + 1 } } → (r : Inside) → p ≡ v .0 - 1
+          → r ≡ inside.Stands (record { instruction = instruction.GoTo u; behind = next }) → Inside-is b k base p r
+      unfolding Inside-is instruction-told
+      REPEAT-goes-back next behind r here found =
+          let at-its-end : p ≡ s + flat-length B q + 1 = omega (arith, here, ends, ends-at, long) in
+          rw found
+          (record {
+            pasted = λ P h. record {
+              stands = rw starts (has (repeat-goes-back B k base s (g .0) q (leaves P repeats h) p at-its-end .there));
+              behind-it = comes-behind P next behind (omega (arith, at-its-end, ends-at, long)) h;
+            };
+          })
+
+      module _ (body : Place) (begins : body ≡ record { routine = q; base = record { 0 = u .0 + 1 }; line = record { 0 = 0 } }) where
+        its-routine : body .routine ≡ q
+        its-routine = ap (λ (y : Place). y .routine) begins
+
+        its-base : body .base .0 ≡ s + 1
+        its-base = ap (λ (y : Place). y .base .0) begins ∙ ap (λ n. n + 1) starts
+
+        its-line : body .line .0 ≡ 0
+        its-line = ap (λ (y : Place). y .line .0) begins
+
+        pub REPEAT-looks : (r : Inside) → p ≡ u .0 → r ≡ inside.Stands (record { instruction = instruction.Dec g v; behind = body }) → Inside-is b k base p r
+        unfolding Inside-is instruction-told
+        REPEAT-looks r here found =
+            let at-s : s ≡ p = omega (arith, here, starts) in
+            let to : p + flat-length B q + 2 ≡ v .0 = omega (arith, ends, ends-at, long, at-s) in
+            let base-is : body .base .0 ≡ p + 1 = its-base ∙ ap (λ n. n + 1) at-s in
+            rw found
+            (record {
+              pasted = λ P h.
+                  let whole = rw at-s at (leaves P repeats h) in
+                  record {
+                    stands = rw (sym to) (has (repeat-looks B k base p (g .0) q whole .there));
+                    behind-it = rw (its-routine, base-is, its-line)
+                        (record {
+                          starts-at = record {
+                            copy-within = rw at-s at (inner-within q (s + 1) uses inner);
+                            a-line-or-end = omega arith;
+                            starts-there = omega (arith, first-start B q);
+                          };
+                          has-copy = repeated-copy-stands B k base p (g .0) q whole;
+                        });
+                  };
+            })
+
+        pub REPEAT-deeper : p ≢ u .0 → p ≢ v .0 - 1 → Inside-is b k base p (inside.Deeper body)
+        REPEAT-deeper not-first not-last =
+            deeper q (s + 1) uses inner body its-routine its-base
+            (omega (arith, not-first, starts, w .from))
+            (omega (arith, not-last, ends, ends-at, long, w .to))
+            (λ P h. repeated-copy-stands B k base s (g .0) q (leaves P repeats h))
+
+-- ---- from the top, and deeper
+
+-- The flat program is the asked routine's copy that begins at 0.
+top-stands : (b : List ℕ) (k : ℕ) → Has-copy (flat-program (book-of b) k) b k 0
+unfolding flat-program
+top-stands b k = record { behind = []; there = sym (append-nil (copy (book-of b) k 0)) }
+
+module _ (b : List ℕ) (asked : ℕ) (whole : Copy-within b asked 0) where
+  abbrev flat : Program
+  flat = flat-program (book-of b) asked
+
+  pub first-place : (here : Place) → here ≡ record { routine = asked; base = record { 0 = 0 }; line = record { 0 = 0 } } → Comes-to flat b here 0
+  first-place here e =
+      rw e
+      (record {
+        starts-at = record { copy-within = whole; a-line-or-end = omega arith; starts-there = omega (arith, first-start (book-of b) asked) };
+        has-copy = top-stands b asked;
+      })
+
+  module _ (p : ℕ) (below : p < flat-length (book-of b) asked) where
+    pub in-the-top : (top : Place) → top ≡ record { routine = asked; base = record { 0 = 0 }; line = record { 0 = 0 } }
+        → In-the-copy b (top .routine) (top .base .0) p
+    in-the-top top e = rw e (record { copy-within = whole; from = omega arith; to = omega (arith, below) })
+
+    pub lies-in-the-top : (top at : Place) (line : RoutineLine) → top ≡ record { routine = asked; base = record { 0 = 0 }; line = record { 0 = 0 } }
+        → In-the-line b (top .routine) (top .base .0) (line .0) p → at ≡ record { routine = top .routine; base = top .base; line = line }
+        → Lies-in flat b at p
+    lies-in-the-top top at line e s f =
+        let start = rw e at s in
+        rw (f, e) (record { in-the-line = start; has-copy = top-stands b asked })
+
+-- The line that starts at p is the one in which p lies, if it ends behind p.
+pub lies-here : (P : Program) (b : List ℕ) (here : Place) (p n end : ℕ) → Comes-to P b here p → n ≡ count b (here .routine) → here .line .0 < n
+    → end ≡ here .base .0 + start (book-of b) (here .routine) (here .line .0 + 1) → p < end → Lies-in P b here p
+lies-here P b here p n end c size h e s =
+    record {
+      in-the-line = record {
+        copy-within = c .starts-at .copy-within;
+        a-line = omega (arith, size, h);
+        from = omega (arith, c .starts-at .starts-there);
+        to = omega (arith, e, s);
+      };
+      has-copy = c .has-copy;
+    }
+
+module _ (P : Program) (b : List ℕ) (at : Place) (p : ℕ) (s : Lies-in P b at p) (found : Inside)
+    (is : Inside-is b (at .routine) (at .base .0) p found) where
+  pub pasted-there : {x : Pasted} → found ≡ inside.Stands x → Pasted-at P b p x
+  unfolding Inside-is
+  pasted-there e =
+      let f = rw e at is in
+      f .pasted P (s .has-copy)
+
+  module _ {inner : Place} (e : found ≡ inside.Deeper inner) where
+    there : Deeper-there b (at .routine) (at .base .0) p inner
+    unfolding Inside-is
+    there = rw e at is
+
+    pub in-the-inner : In-the-copy b (inner .routine) (inner .base .0) p
+    in-the-inner = there .in-the-copy
+
+    module _ (line : RoutineLine) (around : In-the-line b (inner .routine) (inner .base .0) (line .0) p) (next : Place)
+        (made : next ≡ record { routine = inner .routine; base = inner .base; line = line }) where
+      pub lies-deeper : Lies-in P b next p
+      lies-deeper = rw made (record { in-the-line = around; has-copy = there .has-copy P (s .has-copy) })
+
+      pub falls : next .routine < at .routine
+      falls = rw made (there .lower)
