@@ -3,3 +3,8 @@ pub mod Rows
 pub mod Deepest
 pub mod Pasting
 pub mod Putting
+pub mod Answers
+-- what callers have
+pub mod Told
+pub mod Unique
+pub mod Output

@@ -1,14 +1,16 @@
 -- The loop that writes: the first p lines of the flat program stand behind the header's room, and what is not written yet is as it was.
 -- What is pasted at p stands there in the flat program, so it is the line that comes next. Assumes nothing.
+use mir.Syntax.{w16}
+use mir.Val.{Fits}
 use Prim.Native.Nat.{ℕ, _+_, _<_, _≤_}
 use native.Mathlib.Omega.{arith}
-use mathlib.Core.Path.{_≡_, refl, _∙_}
+use mathlib.Core.Path.{_≡_, refl, sym, _∙_}
 use mathlib.Core.List.{List}
 use lib.ListN.{length}
 use Rattle.scope.specs.Ram as ram
 use Rattle.scope.specs.Ram.{Program, Has, has, Target-within, Targets-within}
 use Rattle.scope.specs.Book.{line-bytes, fields-of, book-of}
-use Rattle.scope.specs.Flattening.{most-flat-lines, flat-length, flat-program, bytes-of-fields, as-line, flat-book-bytes}
+use Rattle.scope.specs.Flattening.{most-flat-lines, flat-length, flat-program, bytes-of-fields, as-line, flat-header, flat-book, flat-book-bytes, at-the-front-of}
 use Rattle.scope.proofs.FlatLines.{length-flat-program}
 use Rattle.scope.proofs.FlatBook.{flat-program-fits}
 use Rattle.book.specs.declared.header.Counts.{Counts}
@@ -16,7 +18,7 @@ use Rattle.book.specs.declared.flat.Instruction.{Instruction}
 use Rattle.book.specs.Told.{instruction-told}
 use Rattle.book.specs.Asked.{Taken-with}
 use Rattle.book.specs.Written.{with-bytes, with-lines}
-use Rattle.book.proofs.Written.{no-line-written, line-written}
+use Rattle.book.proofs.Written.{no-line-written, line-written, book-written}
 use Rattle.flatten.specs.declared.copying.Place.{Place}
 use Rattle.flatten.specs.declared.copying.Pasted.{Pasted}
 use Rattle.flatten.specs.Copies.{Copy-within, Comes-to, Pasted-at}
@@ -80,3 +82,24 @@ pub all-lines-written : (b : List ℕ) (asked n : ℕ) (out₀ : List ℕ) (here
 all-lines-written b asked n out₀ here p out w h =
     let end : p ≡ n = omega (arith, h, w .upto) in
     rw end at (w .so-far)
+
+-- ---- the flat book
+
+module _ (b : List ℕ) (asked : ℕ) (whole : Copy-within b asked 0) (n : ℕ) (size : n ≡ flat-length (book-of b) asked) (out : List ℕ)
+    (room : flat-book-bytes n ≤ length out) where
+  pub lines-fit : Fits w16 n
+  lines-fit = record { fits = omega (arith, size, whole .ends-within) }
+
+  pub few-lines : n ≤ most-flat-lines
+  few-lines = omega (arith, size, whole .ends-within)
+
+  pub header-has-room : flat-book-bytes 0 ≤ length out
+  unfolding flat-book-bytes
+  header-has-room = omega (arith, room)
+
+  pub lines-have-room : (out₁ : List ℕ) → length out₁ ≡ length out → flat-book-bytes n ≤ length out₁
+  lines-have-room out₁ same = omega (arith, room, same)
+
+  pub flat-book-written : (out₁ out₂ : List ℕ) → out₁ ≡ with-bytes out 0 (flat-header n) → out₂ ≡ with-lines out₁ n (flat-program (book-of b) asked)
+      → out₂ ≡ at-the-front-of out (flat-book (flat-program (book-of b) asked))
+  flat-book-written out₁ out₂ = book-written out out₁ out₂ n _ (size ∙ sym (length-flat-program (book-of b) asked)) room

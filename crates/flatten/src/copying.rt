@@ -4,7 +4,7 @@ ghost use mathlib.Core.Path.{_≡_};
 ghost use Prim.Native.Nat.{_+_, _<_, _≤_};
 ghost use lib.ListN.{length};
 ghost use Rattle.scope.specs.Book.{most-lines, count, REPEAT, line-of, fields-in, book-of};
-ghost use Rattle.scope.specs.Flattening.{flat-length, start, flat-program, flat-book-bytes};
+ghost use Rattle.scope.specs.Flattening.{flat-length, start, flat-program, flat-book, flat-book-bytes, at-the-front-of};
 ghost use Rattle.book.specs.Asked.{Taken-with};
 ghost use Rattle.book.specs.Written.{with-lines};
 ghost use Rattle.flatten.specs.declared.copying.Inside.the-variants.{Stands};
@@ -13,6 +13,7 @@ ghost use Rattle.flatten.specs.Copies.{Copy-within, In-the-copy, In-the-
 use super::lengths::start_of;
 use book::flat::FlatLine;
 use book::flat::Instruction;
+use book::flat::put_header;
 use book::flat::put_line;
 use book::header::Counts;
 use book::lines::Line;
@@ -203,14 +204,7 @@ fn paste_at(
 }
 
 // Writes the n flat lines of a routine, one behind the other.
-pub(crate) fn put_lines(
-    b: &[u8],
-    counts: Counts,
-    starts: &[u32],
-    routine: u16,
-    n: usize,
-    out: &mut [u8],
-)
+fn put_lines(b: &[u8], counts: Counts, starts: &[u32], routine: u16, n: usize, out: &mut [u8])
     requires { ⌜ Taken-with (now b) counts ⌝ }
     requires { ⌜ Table (now b) (now starts) ⌝ }
     requires { ⌜ Copy-within (now b) routine 0 ⌝ }
@@ -227,4 +221,24 @@ pub(crate) fn put_lines(
         here = found.behind;
         p += 1;
     }
+}
+
+// Writes the flat book of a routine: its header and then its lines.
+pub(crate) fn put_book(
+    b: &[u8],
+    counts: Counts,
+    starts: &[u32],
+    routine: u16,
+    n: usize,
+    out: &mut [u8],
+)
+    requires { ⌜ Taken-with (now b) counts ⌝ }
+    requires { ⌜ Table (now b) (now starts) ⌝ }
+    requires { ⌜ Copy-within (now b) routine 0 ⌝ }
+    requires { ⌜ n ≡ flat-length (book-of (now b)) routine ⌝ }
+    requires { ⌜ flat-book-bytes n ≤ length (now out) ⌝ }
+    ensures { λ _. ⌜ now (out .exit) ≡ at-the-front-of (now (out .entry)) (flat-book (flat-program (book-of (now (b .entry))) routine)) ⌝ }
+{
+    put_header(out, n as u16);
+    put_lines(b, counts, starts, routine, n, out);
 }

@@ -193,7 +193,8 @@ only-routine-0 C c zero h = c
 only-routine-0 C c (suc r) h = absurd (omega arith)
 
 module _ (P : Program) (fits : Fits-a-book P) where
-  read-at : (i : ℕ) {x : Instruction} {rest : Program} → drop i P ≡ x ∷ rest → fields-at (flat-book P) i ≡ fields-of (as-line x)
+  -- What stands at line i of the book is instruction i of the program.
+  pub read-at : (i : ℕ) {x : Instruction} {rest : Program} → drop i P ≡ x ∷ rest → fields-at (flat-book P) i ≡ fields-of (as-line x)
   unfolding Targets-within
   read-at i {x} e =
       let short = fits .not-too-long in
