@@ -2,9 +2,21 @@
 -- Said of what a caller learns from the contract (`Learnt`): both tell the same fields, and the fields are all that an answer has. Assumes nothing.
 use mathlib.Core.Path.{_≡_, sym, _∙_, ap}
 use denote.Ref.{now}
-use Rattle.page.specs.declared.RunAnswer.{RunAnswer}
-use Rattle.page.specs.Told.{run-told}
+use Rattle.page.specs.declared.answers.FlattenAnswer.{FlattenAnswer}
+use Rattle.page.specs.declared.answers.RunAnswer.{RunAnswer}
+use Rattle.page.specs.Told.{flatten-told, run-told}
+use Rattle.page.proofs.zn_flatten.Reads as zn-flatten
 use Rattle.page.proofs.zn_run.Reads as zn-run
+
+flatten-answers-apart : (r r′ : FlattenAnswer) → flatten-told r ≡ flatten-told r′ → r ≡ r′
+unfolding flatten-told
+flatten-answers-apart r r′ e = λ i. record { refusal = e i .refusal; place = e i .place; lines = e i .lines }
+
+pub zn-flatten-once : (κs : _) (a : _) (r r′ : _) (s s′ : _) → zn-flatten.Learnt κs a r s → zn-flatten.Learnt κs a r′ s′
+    → (r ≡ r′) × (now (s .1 .1 .0) ≡ now (s′ .1 .1 .0))
+zn-flatten-once κs a r r′ s s′ p q =
+    let same = p ∙ sym q in
+    (flatten-answers-apart r r′ (ap (λ c. c .fields) same), ap (λ c. c .left) same)
 
 run-answers-apart : (r r′ : RunAnswer) → run-told r ≡ run-told r′ → r ≡ r′
 unfolding run-told

@@ -1,7 +1,11 @@
 -- What each answer to C tells: the fields that the definitions of the page's calls give (`Page` of `scope`), one for each of the struct's.
 -- Assumes nothing.
-use Rattle.scope.specs.Page.{Run-fields}
-use Rattle.page.specs.declared.RunAnswer.{RunAnswer}
+use Rattle.scope.specs.Page.{Flatten-fields, Run-fields}
+use Rattle.page.specs.declared.answers.FlattenAnswer.{FlattenAnswer}
+use Rattle.page.specs.declared.answers.RunAnswer.{RunAnswer}
+
+unfoldable pub flatten-told : FlattenAnswer → Flatten-fields
+flatten-told r = record { refusal = r .refusal; place = r .place; lines = r .lines }
 
 unfoldable pub run-told : RunAnswer → Run-fields
 run-told r =

@@ -3,7 +3,7 @@
 use borrow.Author.Needs.{needs}
 use Rattle.page.proofs.run_without.Statement.{statement}
 use Rattle.page.proofs.run_without.Tie as tie
-use Rattle.page.proofs.Answers.{fields-of-the-call}
+use Rattle.page.proofs.Calls.{fields-of-the-call}
 
 slice-aggregate-run : tie.Need-slice-aggregate-run
 slice-aggregate-run c = search needs
@@ -11,11 +11,11 @@ slice-aggregate-run c = search needs
 run-requires : tie.Need-run-requires
 run-requires c κs = search needs
 
-fields-of-requires : tie.Need-fields-of-requires
-fields-of-requires c κs = search needs
+run-fields-requires : tie.Need-run-fields-requires
+run-fields-requires c κs = search needs
 
 returns : tie.Need-returns
 returns c = search fields-of-the-call
 
 pub run-without-spec : {M : Type 1} → statement M
-run-without-spec = tie.close (tie.spec slice-aggregate-run run-requires fields-of-requires returns)
+run-without-spec = tie.close (tie.spec slice-aggregate-run run-requires run-fields-requires returns)

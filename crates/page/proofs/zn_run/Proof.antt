@@ -3,7 +3,7 @@
 use borrow.Author.Needs.{needs}
 use Rattle.page.proofs.zn_run.Statement.{statement}
 use Rattle.page.proofs.zn_run.Tie as tie
-use Rattle.page.proofs.Answers.{other-length, run-is-refused, run-is-done}
+use Rattle.page.proofs.Calls.{other-length, run-is-refused, run-is-done}
 
 run-without-requires : tie.Need-run-without-requires
 run-without-requires c κs = search needs
@@ -20,8 +20,8 @@ slice-aggregate-run c = search needs
 run-requires : tie.Need-run-requires
 run-requires c κs = search needs
 
-fields-of-requires : tie.Need-fields-of-requires
-fields-of-requires c κs = search needs
+run-fields-requires : tie.Need-run-fields-requires
+run-fields-requires c κs = search needs
 
 enum-known-ran : tie.Need-enum-known-ran
 enum-known-ran c = search needs
@@ -56,7 +56,7 @@ zn-run-spec =
     registers-of-requires
     slice-aggregate-run
     run-requires
-    fields-of-requires
+    run-fields-requires
     enum-known-ran
     enum-known-ran-2
     slice-aggregate-put-registers

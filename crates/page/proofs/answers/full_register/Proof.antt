@@ -1,8 +1,8 @@
--- `full_register` is the full register of an outcome, 0 where there is none.
+-- `answers::full_register` is the full register of an outcome, 0 where there is none.
 -- By the outcomes. Assumes nothing.
 use borrow.Author.Needs.{needs}
-use Rattle.page.proofs.full_register.Statement.{statement}
-use Rattle.page.proofs.full_register.Tie as tie
+use Rattle.page.proofs.answers.full_register.Statement.{statement}
+use Rattle.page.proofs.answers.full_register.Tie as tie
 use Rattle.scope.specs.Page.{full-register}
 use Rattle.unit.specs.Told.{outcome-told}
 

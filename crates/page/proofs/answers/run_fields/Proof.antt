@@ -1,9 +1,9 @@
--- `fields_of` has the fields of a run's answer.
+-- `answers::run_fields` has the fields of a run's answer.
 -- By its two cases; the refusal's number is the table's. Assumes nothing.
 use borrow.Author.Needs.{needs}
-use Rattle.page.proofs.fields_of.Statement.{statement}
-use Rattle.page.proofs.fields_of.Tie as tie
-use Rattle.page.proofs.Answers.{fields-refused, fields-done}
+use Rattle.page.proofs.answers.run_fields.Statement.{statement}
+use Rattle.page.proofs.answers.run_fields.Tie as tie
+use Rattle.page.proofs.Calls.{fields-refused, fields-done}
 
 enum-known-ran : tie.Need-enum-known-ran
 enum-known-ran c = search needs
@@ -26,8 +26,8 @@ returns c = search fields-refused
 returns-2 : tie.Need-returns-2
 returns-2 c = search fields-done
 
-pub fields-of-spec : {M : Type 1} → statement M
-fields-of-spec =
+pub run-fields-spec : {M : Type 1} → statement M
+run-fields-spec =
     tie.close
     (tie.spec
     enum-known-ran

@@ -1,4 +1,4 @@
--- What C gets of a run: its answer field by field, and the bytes of the registers.
+-- What C gets of flattening and of a run: the answer field by field, and the bytes of the output or of the registers.
 -- Any other length than 64 is refused as a run is that is lent no registers; with 64 the page's run is a run of the registers that they say. Assumes nothing.
 use Prim.Native.Nat.{ℕ}
 use mathlib.Core.Bool.{Bool, true, false}
@@ -11,21 +11,45 @@ use Rattle.scope.specs.Refusals as paper
 use Rattle.scope.specs.Refusals.{number, NOT-FLAT, REGISTERS, Verdict, refusal, pass, refuse, accepted, Call, call-of, answer-of}
 use Rattle.scope.specs.Book.{two-bytes-each, routines, book-verdict}
 use Rattle.scope.specs.Steps.{register-count, Registers, End}
+use Rattle.scope.specs.Flattening.{flatten-call}
 use Rattle.scope.specs.Running as running
 use Rattle.scope.specs.Running.{program-of, flat-run, run-verdict, ran, run-call}
-use Rattle.scope.specs.Page.{registers-length, registers-of, outcome-number, full-register, run-fields, page-run-call, page-run}
+use Rattle.scope.specs.Page.{flatten-fields, page-flatten, registers-length, registers-of, outcome-number, full-register, run-fields, page-run-call, page-run}
 use Rattle.scope.proofs.Verdicts.{if-true, if-false, is-not-tells, then-goes-on, then-refuses, refused-exactly-when, accepted-only-where-passed, call-where-passed, refusal-writes-nothing}
 use Rattle.scope.proofs.Lists.{length-listed}
 use Rattle.book.specs.declared.refusals.Refusal.{Refusal}
 use Rattle.book.specs.Told.{name-told, refusal-told}
+use Rattle.flatten.specs.declared.Flattened.{Flattened}
+use Rattle.flatten.specs.declared.Flattened.the-variants as flattened
+use Rattle.flatten.specs.Told.{flattened-told}
 use Rattle.unit.specs.declared.machine.Answer.{Answer}
 use Rattle.unit.specs.declared.Ran.{Ran}
 use Rattle.unit.specs.declared.Ran.the-variants.{Done, Refused}
 use Rattle.unit.specs.Told.{outcome-told, answer-told, ran-told}
-use Rattle.page.specs.declared.RunAnswer.{RunAnswer}
-use Rattle.page.specs.Told.{run-told}
+use Rattle.page.specs.declared.answers.FlattenAnswer.{FlattenAnswer}
+use Rattle.page.specs.declared.answers.RunAnswer.{RunAnswer}
+use Rattle.page.specs.Told.{flatten-told, run-told}
 
--- ---- the fields
+-- ---- flattening
+
+module _ (r : Flattened) where
+  pub flattening-refused : {x : Refusal} (n : ℕ) → r ≡ flattened.Refused x → n ≡ number (name-told (x .name))
+      → flatten-told (record { refusal = n; place = x .place; lines = 0 }) ≡ flatten-fields (flattened-told r)
+  unfolding flatten-told flatten-fields flattened-told refusal-told
+  flattening-refused n e f = rw (e, f) refl
+
+  pub flattening-accepted : {n : ℕ} → r ≡ flattened.Flat n
+      → flatten-told (record { refusal = 0; place = 0; lines = n }) ≡ flatten-fields (flattened-told r)
+  unfolding flatten-told flatten-fields flattened-told
+  flattening-accepted e = rw e refl
+
+  pub flattens-for-C : (b : List ℕ) (k : ℕ) (out out′ : List ℕ) (a : FlattenAnswer) → record { answer = flattened-told r; left = out′ } ≡ flatten-call b k out
+      → flatten-told a ≡ flatten-fields (flattened-told r) → record { fields = flatten-told a; left = out′ } ≡ page-flatten b k out
+  unfolding page-flatten
+  flattens-for-C b k out out′ a told fields =
+      (λ i. record { fields = fields i; left = out′ }) ∙ ap (λ c. record { fields = flatten-fields (c .answer); left = c .left }) told
+
+-- ---- the fields of a run
 
 module _ (r : Ran) where
   pub fields-refused : {x : Refusal} (n : ℕ) → r ≡ Refused x → n ≡ number (name-told (x .name))

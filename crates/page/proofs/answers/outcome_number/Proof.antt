@@ -1,8 +1,8 @@
--- `outcome_number` is the number of an outcome for C.
+-- `answers::outcome_number` is the number of an outcome for C.
 -- By the outcomes. Assumes nothing.
 use borrow.Author.Needs.{needs}
-use Rattle.page.proofs.outcome_number.Statement.{statement}
-use Rattle.page.proofs.outcome_number.Tie as tie
+use Rattle.page.proofs.answers.outcome_number.Statement.{statement}
+use Rattle.page.proofs.answers.outcome_number.Tie as tie
 use Rattle.scope.specs.Page.{outcome-number}
 use Rattle.unit.specs.Told.{outcome-told}
 
