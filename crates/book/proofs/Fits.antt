@@ -1,14 +1,14 @@
--- What is read of a taken book fits, and stands where it was read: what crates above need of `lines::line_at` and `flat::instruction_at`.
+-- What is read of a taken book fits, and of a flat one stands where it was read: what crates above need of `lines::line_at` and `flat::instruction_at`.
 -- A taken line fits, field by field, and it is the line of the list that the bytes say; both by the answer's cases. Assumes nothing.
 use Prim.Native.Nat.{ℕ, suc, _<_, _≤_}
 use native.Mathlib.Omega.{arith}
 use mathlib.Core.Path.{_≡_, sym, _∙_, ap}
 use mathlib.Core.List.{List, _∷_}
 use lib.ListN.{drop}
-use Rattle.scope.specs.Book.{routines, lines, count, line-of, fields-at, fields-in, routine, book-of}
+use Rattle.scope.specs.Book.{routines, lines, count, line-of, fields-at, fields-in}
 use Rattle.scope.specs.Steps.{register-count}
 use Rattle.scope.specs.Running.{instruction-of, program-of}
-use Rattle.scope.proofs.TakenBook.{Line-fits, INC-fits, DEC-fits, GO-TO-fits, CALL-fits, REPEAT-fits, taken-book, taken-line-fits, line-in-the-book}
+use Rattle.scope.proofs.TakenBook.{Line-fits, INC-fits, DEC-fits, GO-TO-fits, CALL-fits, REPEAT-fits, taken-book, taken-line-fits}
 use Rattle.scope.proofs.TakenProgram.{program-stands}
 use Rattle.book.specs.declared.header.Counts.{Counts}
 use Rattle.book.specs.declared.lines.Reg.{Reg}
@@ -42,10 +42,6 @@ module _ (b : List ℕ) (c : Counts) (l : Line) (r j : ℕ) (t : Taken-with b c)
     (e : line-told l ≡ line-of (fields-in b r j)) where
   here : r < routines b
   here = below-R r (t .tabled .sized) h
-
-  -- It stands at j in its routine of the book that the bytes say.
-  pub read-line-stands : drop j (routine (book-of b) r) ≡ line-told l ∷ drop (suc j) (routine (book-of b) r)
-  read-line-stands = line-in-the-book b r j here s ∙ ap (λ m. m ∷ drop (suc j) (routine (book-of b) r)) (sym e)
 
   pub line-fits : {m : Line} → l ≡ m → Fits-line r (count b r) m
   line-fits k =

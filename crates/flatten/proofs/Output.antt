@@ -1,10 +1,9 @@
 -- What a caller has in its output where flattening answers n: the flat book in front, behind it what was there, and at flat line i the
 -- instruction that the flat program has there; in particular every jump of a copied line is moved by where its copy begins.
 use Prim.Native.Nat.{ℕ, _+_}
-use native.Mathlib.Omega.{arith}
-use mathlib.Core.Path.{_≡_, refl, sym, _∙_, ap}
+use mathlib.Core.Path.{_≡_, sym, _∙_, ap}
 use mathlib.Core.List.{List, _∷_}
-use lib.ListN.{length, take, drop, length-append}
+use lib.ListN.{length, take, drop}
 use lib.Seq.{take-at, drop-append-seam}
 use Rattle.scope.specs.Ram.{Program, Instruction, Has, has}
 use Rattle.scope.specs.Refusals.{pass, call-of}

@@ -8,8 +8,7 @@ use native.Mathlib.Numerals.{add-one}
 use mathlib.Core.Path.{_≡_, refl, sym, _∙_, ap}
 use mathlib.Core.Logic.{_≢_}
 use mathlib.Core.List.{List, [], _∷_, append-nil}
-use lib.ListN.{length, drop}
-use Rattle.scope.specs.Ram as ram
+use lib.ListN.{drop}
 use Rattle.scope.specs.Ram.{Program, Has, has}
 use Rattle.scope.specs.Book as book
 use Rattle.scope.specs.Book.{Book, most-lines, routines, count, REPEAT, line-of, fields-in, routine, Taken, Line-uses, by-CALL, by-REPEAT, Callees-below, book-of}
@@ -32,7 +31,7 @@ use Rattle.flatten.specs.declared.copying.Pasted.{Pasted}
 use Rattle.flatten.specs.declared.copying.Inside.{Inside}
 use Rattle.flatten.specs.declared.copying.Inside.the-variants as inside
 use Rattle.flatten.specs.Rows.{length-cap, Table}
-use Rattle.flatten.specs.Copies.{Copy-within, In-the-copy, In-the-line, Starts-at, Has-copy, Lies-in, Comes-to, Pasted-at, Found-there, Deeper-there, Inside-is}
+use Rattle.flatten.specs.Copies.{Copy-within, In-the-copy, In-the-line, Has-copy, Lies-in, Comes-to, Pasted-at, Deeper-there, Inside-is}
 
 -- ---- starts within 4,096 are the starts themselves
 

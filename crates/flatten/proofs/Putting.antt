@@ -8,7 +8,7 @@ use mathlib.Core.Path.{_≡_, refl, sym, _∙_}
 use mathlib.Core.List.{List}
 use lib.ListN.{length}
 use Rattle.scope.specs.Ram as ram
-use Rattle.scope.specs.Ram.{Program, Has, has, Target-within, Targets-within}
+use Rattle.scope.specs.Ram.{Has, has, Target-within, Targets-within}
 use Rattle.scope.specs.Book.{line-bytes, fields-of, book-of}
 use Rattle.scope.specs.Flattening.{most-flat-lines, flat-length, flat-program, bytes-of-fields, as-line, flat-header, flat-book, flat-book-bytes, at-the-front-of}
 use Rattle.scope.proofs.FlatLines.{length-flat-program}

@@ -2,16 +2,16 @@
 -- A routine uses lower ones only, so what it looks up is there; the parts of the table lie one behind the other. Assumes nothing.
 use mir.Syntax.{w32, w64}
 use mir.Val.{Fits}
-use Prim.Native.Nat.{ℕ, suc, _+_, _*_, _<_, _≤_, min}
+use Prim.Native.Nat.{ℕ, _+_, _*_, _<_, _≤_, min}
 use native.Mathlib.Omega.{arith}
 use native.Mathlib.Decide.{ℕ-discrete}
 use native.Mathlib.Numerals.{add-one}
 use mathlib.Core.Path.{_≡_, refl, sym, _∙_, ap}
 use mathlib.Core.Logic.{⊎-elim}
-use mathlib.Core.List.{List, [], _∷_}
-use lib.ListN.{length, getD, set, length-set, drop}
+use mathlib.Core.List.{List}
+use lib.ListN.{length, getD, set, length-set}
 use lib.Seq.{getD-set-same, getD-set-other}
-use Rattle.scope.specs.Book.{most-routines, routines, line-table-due, length-due, first-line, first-line-due, count, line-of, fields-in, routine, book-of}
+use Rattle.scope.specs.Book.{most-routines, routines, line-table-due, length-due, first-line, first-line-due, count, line-of, fields-in, book-of}
 use Rattle.scope.specs.Flattening.{line-length, flat-length, start}
 use Rattle.scope.proofs.Verdicts.{one-holds, below-tells}
 use Rattle.scope.proofs.TakenBook.{taken-book, taken-callees-below, line-in-the-book, routine-ends}

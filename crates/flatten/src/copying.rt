@@ -1,5 +1,6 @@
 // The copying: each flat line is worked out by itself, over one table of starts that serves all copies. All that decides is read-only,
-// and one loop writes.
+// and one loop writes. A flat line opens at most 32 copies and halves at most 12 times in each, so n flat lines take at most 12 * 32 * n
+// halvings whatever the book; a routine of length 0 is never opened, and where a line follows the last in its copy nothing is searched.
 ghost use mathlib.Core.Path.{_≡_};
 ghost use Prim.Native.Nat.{_+_, _<_, _≤_};
 ghost use lib.ListN.{length};
@@ -23,10 +24,10 @@ use book::lines::line_at;
 use book::table::count;
 
 // A line, or the end, of a copy of a routine that begins at a flat line.
-pub(crate) struct Place {
-    pub(crate) routine: u16,
-    pub(crate) base: FlatLine,
-    pub(crate) line: RoutineLine,
+struct Place {
+    routine: u16,
+    base: FlatLine,
+    line: RoutineLine,
 }
 
 // What stands at a flat line, and the place at which the next flat line starts.
@@ -42,7 +43,7 @@ enum Inside {
 }
 
 // A target becomes the start of that line, the end becomes the end, both moved by where this copy of the routine begins.
-// Every flat line number that comes of a routine's is made here.
+// A flat line number is made of a routine's here and nowhere else.
 fn moved(b: &[u8], starts: &[u32], at: Place, target: RoutineLine) -> FlatLine
     requires { ⌜ Table (now b) (now starts) ⌝ }
     requires { ⌜ Copy-within (now b) (at .routine) (at .base .0) ⌝ }
@@ -87,6 +88,7 @@ fn at_line(copy: Place, line: RoutineLine) -> Place
     }
 }
 
+// The line behind it, or the end of its copy.
 fn behind(at: Place) -> Place
     requires { ⌜ at .line .0 < most-lines ⌝ }
     ensures { λ r. ⌜ r ≡ record { routine = at .routine; base = at .base; line = record { 0 = at .line .0 + 1 } } ⌝ }
@@ -106,6 +108,7 @@ fn copy_of(c: u16, base: FlatLine) -> Place
     }
 }
 
+// This stands at the flat line, and behind it the next place.
 fn stands(x: Instruction, next: Place) -> Inside
     ensures { λ r. ⌜ r ≡ Stands (record { instruction = x; behind = next }) ⌝ }
 {
@@ -126,12 +129,12 @@ fn in_repeat(b: &[u8], starts: &[u32], at: Place, r: Reg, c: u16, p: FlatLine) -
     let start = moved(b, starts, at, line);
     let end = moved(b, starts, at, RoutineLine(line.0 + 1));
     let last = FlatLine(end.0 - 1);
+    if p.0 == last.0 {
+        return stands(Instruction::GoTo(start), behind(at));
+    }
     let body = copy_of(c, FlatLine(start.0 + 1));
     if p.0 == start.0 {
         return stands(Instruction::Dec(r, end), body);
-    }
-    if p.0 == last.0 {
-        return stands(Instruction::GoTo(start), behind(at));
     }
     Inside::Deeper(body)
 }

@@ -1,5 +1,5 @@
--- `copying::in_repeat` finds what a REPEAT leaves at a flat line: its DEC, its GO TO, or its copy.
--- By whether it is the first of its flat lines, the last, or one between. Assumes nothing.
+-- `copying::in_repeat` finds what a REPEAT leaves at a flat line: its GO TO, its DEC, or its copy.
+-- By whether it is the last of its flat lines, the first, or one between. Assumes nothing.
 use borrow.Author.Needs.{needs}
 use Rattle.flatten.proofs.copying.in_repeat.Statement.{statement}
 use Rattle.flatten.proofs.copying.in_repeat.Tie as tie
@@ -17,26 +17,26 @@ moved-requires-2 c κs = search next-line-or-end
 sub-t14 : tie.Need-sub-t14
 sub-t14 c = search needs
 
+behind-requires : tie.Need-behind-requires
+behind-requires c κs = search line-below-most
+
+stands-requires : tie.Need-stands-requires
+stands-requires c κs = search needs
+
+returns : tie.Need-returns
+returns c = search REPEAT-goes-back
+
 add-t14 : tie.Need-add-t14
 add-t14 c = search needs
 
 copy-of-requires : tie.Need-copy-of-requires
 copy-of-requires c κs = search needs
 
-stands-requires : tie.Need-stands-requires
-stands-requires c κs = search needs
-
-returns : tie.Need-returns
-returns c = search REPEAT-looks
-
-behind-requires : tie.Need-behind-requires
-behind-requires c κs = search line-below-most
-
 stands-requires-2 : tie.Need-stands-requires-2
 stands-requires-2 c κs = search needs
 
 returns-2 : tie.Need-returns-2
-returns-2 c = search (REPEAT-goes-back, c .before .before .before .before .before .before .before .before .before .before .before .before .before .before .before .before .before .pre)
+returns-2 c = search REPEAT-looks
 
 returns-3 : tie.Need-returns-3
 returns-3 c = search REPEAT-deeper
@@ -49,11 +49,11 @@ in-repeat-spec =
     add-t12
     moved-requires-2
     sub-t14
-    add-t14
-    copy-of-requires
+    behind-requires
     stands-requires
     returns
-    behind-requires
+    add-t14
+    copy-of-requires
     stands-requires-2
     returns-2
     returns-3)
