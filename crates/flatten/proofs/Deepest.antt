@@ -3,7 +3,7 @@
 use Prim.Native.Nat.{ℕ, zero, suc, _+_, _<_, _≤_, min, max}
 use native.Mathlib.Omega.{arith}
 use native.Mathlib.Numerals.{add-one}
-use mathlib.Core.Path.{_≡_, refl, sym, _∙_, ap}
+use mathlib.Core.Path.{_≡_, refl, sym, _∙_}
 use mathlib.Core.Logic.{⊎-elim}
 use mathlib.Core.List.{List, [], _∷_}
 use lib.ListN.{length, getD, set, take, drop}
@@ -18,45 +18,28 @@ use Rattle.scope.proofs.Lowest.{depth-by-the-rule}
 use Rattle.scope.proofs.TakenBook.{taken-callees-below, line-in-the-book, routine-in-the-book, length-routine-of}
 use Rattle.book.specs.declared.header.Counts.{Counts}
 use Rattle.book.specs.declared.lines.Reg.{Reg}
-use Rattle.book.specs.declared.lines.RoutineLine.{RoutineLine}
 use Rattle.book.specs.declared.lines.Line.{Line}
 use Rattle.book.specs.declared.lines.Line.the-variants as line
 use Rattle.book.specs.Told.{line-told}
 use Rattle.book.specs.Asked.{Taken-with}
 use Rattle.book.proofs.Scanned.{below-R}
-use Rattle.book.proofs.Fits.{CALL-below, REPEAT-below}
 use Rattle.flatten.specs.Rows.{depth-cap, Row}
-use Rattle.flatten.proofs.Rows.{empty-row, one-more-routine}
+use Rattle.flatten.proofs.Rows.{said-of-the-line, CALL-looked-up, REPEAT-looked-up, empty-row, one-more-routine}
 
 -- ---- a line
 
 module _ (b : List ℕ) (c : Counts) (l : Line) (k j : ℕ) (t : Taken-with b c) (h : k < c .routines) (s : j < count b k)
-    (e : line-told l ≡ line-of (fields-in b k j)) (row : List ℕ) (w : Row (depth (book-of b)) depth-cap k row) where
-  abbrev capped-depth : ℕ
-  capped-depth = min (used 0 (depth (book-of b)) (line-of (fields-in b k j))) depth-cap
+    (e : line-told l ≡ line-of (fields-in b k j)) where
+  pub depth-is : (n : ℕ) {m : Line} → l ≡ m → n ≡ min (used 0 (depth (book-of b)) (line-told m)) depth-cap
+      → n ≡ min (used 0 (depth (book-of b)) (line-of (fields-in b k j))) depth-cap
+  depth-is = said-of-the-line b c l k j t h s e (used 0 (depth (book-of b))) depth-cap
 
-  of-the-line : {m : Line} → l ≡ m → min (used 0 (depth (book-of b)) (line-told m)) depth-cap ≡ capped-depth
-  of-the-line f = ap (λ x. min (used 0 (depth (book-of b)) x) depth-cap) (ap line-told (sym f) ∙ e)
+  module _ (row : List ℕ) (w : Row (depth (book-of b)) depth-cap k row) where
+    pub CALL-depth : {q : ℕ} → l ≡ line.Call q → getD row q 0 ≡ min (depth (book-of b) q) depth-cap
+    CALL-depth = CALL-looked-up b c l k j t h s e (depth (book-of b)) depth-cap row w
 
-  pub INC-depth : {g : Reg} → l ≡ line.Inc g → 0 ≡ capped-depth
-  unfolding used line-told
-  INC-depth f = of-the-line f
-
-  pub DEC-depth : {g : Reg} {u : RoutineLine} → l ≡ line.Dec g u → 0 ≡ capped-depth
-  unfolding used line-told
-  DEC-depth f = of-the-line f
-
-  pub GO-TO-depth : {u : RoutineLine} → l ≡ line.GoTo u → 0 ≡ capped-depth
-  unfolding used line-told
-  GO-TO-depth f = of-the-line f
-
-  pub CALL-depth : {q : ℕ} → l ≡ line.Call q → getD row q 0 ≡ capped-depth
-  unfolding used line-told
-  CALL-depth f = w .each _ (CALL-below b c l k j t h s e f) ∙ of-the-line f
-
-  pub REPEAT-depth : {g : Reg} {q : ℕ} → l ≡ line.Repeat g q → getD row q 0 ≡ capped-depth
-  unfolding used line-told
-  REPEAT-depth f = w .each _ (REPEAT-below b c l k j t h s e f) ∙ of-the-line f
+    pub REPEAT-depth : {g : Reg} {q : ℕ} → l ≡ line.Repeat g q → getD row q 0 ≡ min (depth (book-of b) q) depth-cap
+    REPEAT-depth = REPEAT-looked-up b c l k j t h s e (depth (book-of b)) depth-cap row w
 
 -- ---- a routine
 

@@ -11,6 +11,7 @@ use mathlib.Core.Logic.{⊎-elim}
 use mathlib.Core.List.{List}
 use lib.ListN.{length, getD, set, length-set}
 use lib.Seq.{getD-set-same, getD-set-other}
+use Rattle.scope.specs.Book as book
 use Rattle.scope.specs.Book.{most-routines, routines, line-table-due, length-due, first-line, first-line-due, count, line-of, fields-in, book-of}
 use Rattle.scope.specs.Flattening.{line-length, flat-length, start}
 use Rattle.scope.proofs.Verdicts.{one-holds, below-tells}
@@ -18,7 +19,6 @@ use Rattle.scope.proofs.TakenBook.{taken-book, taken-callees-below, line-in-the
 use Rattle.scope.proofs.FlatLines.{first-start, next-start, end-start}
 use Rattle.book.specs.declared.header.Counts.{Counts}
 use Rattle.book.specs.declared.lines.Reg.{Reg}
-use Rattle.book.specs.declared.lines.RoutineLine.{RoutineLine}
 use Rattle.book.specs.declared.lines.Line.{Line}
 use Rattle.book.specs.declared.lines.Line.the-variants as line
 use Rattle.book.specs.Told.{line-told}
@@ -43,55 +43,54 @@ module _ (said : ℕ → ℕ) (cap : ℕ) (row : List ℕ) where
 
 -- Line j of routine k is l, and the row has what is said of the routines below k: so it has what is said of the one that the line uses.
 module _ (b : List ℕ) (c : Counts) (l : Line) (k j : ℕ) (t : Taken-with b c) (h : k < c .routines) (s : j < count b k)
-    (e : line-told l ≡ line-of (fields-in b k j)) (said : ℕ → ℕ) (cap : ℕ) (row : List ℕ) (w : Row said cap k row) where
-  below-k : {q : ℕ} → q < k → q < length row
-  below-k g = omega (arith, g, h, w .long, t .tabled .sized .routines-to-32)
+    (e : line-told l ≡ line-of (fields-in b k j)) where
+  -- What is said of a line of this kind is said of the line.
+  pub said-of-the-line : (f : book.Line → ℕ) (cap n : ℕ) {m : Line} → l ≡ m → n ≡ min (f (line-told m)) cap
+      → n ≡ min (f (line-of (fields-in b k j))) cap
+  said-of-the-line f cap n d g = g ∙ ap (λ x. min (f x) cap) (ap line-told (sym d) ∙ e)
 
-  pub CALL-in-the-row : {q : ℕ} → l ≡ line.Call q → q < length row
-  CALL-in-the-row f = below-k (CALL-below b c l k j t h s e f)
+  pub length-is : (n : ℕ) {m : Line} → l ≡ m → n ≡ min (line-length (flat-length (book-of b)) (line-told m)) length-cap
+      → n ≡ min (line-length (flat-length (book-of b)) (line-of (fields-in b k j))) length-cap
+  length-is = said-of-the-line (line-length (flat-length (book-of b))) length-cap
 
-  pub REPEAT-in-the-row : {g : Reg} {q : ℕ} → l ≡ line.Repeat g q → q < length row
-  REPEAT-in-the-row f = below-k (REPEAT-below b c l k j t h s e f)
+  module _ (said : ℕ → ℕ) (cap : ℕ) (row : List ℕ) (w : Row said cap k row) where
+    in-the-row : {q : ℕ} → q < k → q < length row
+    in-the-row g = omega (arith, g, h, w .long, t .tabled .sized .routines-to-32)
 
--- ---- the length of a line
+    pub CALL-in-the-row : {q : ℕ} → l ≡ line.Call q → q < length row
+    CALL-in-the-row d = in-the-row (CALL-below b c l k j t h s e d)
 
-module _ (b : List ℕ) (c : Counts) (l : Line) (k j : ℕ) (t : Taken-with b c) (h : k < c .routines) (s : j < count b k)
-    (e : line-told l ≡ line-of (fields-in b k j)) (row : List ℕ) (w : Row (flat-length (book-of b)) length-cap k row) where
-  abbrev capped-length : ℕ
-  capped-length = min (line-length (flat-length (book-of b)) (line-of (fields-in b k j))) length-cap
+    pub REPEAT-in-the-row : {g : Reg} {q : ℕ} → l ≡ line.Repeat g q → q < length row
+    REPEAT-in-the-row d = in-the-row (REPEAT-below b c l k j t h s e d)
 
-  of-the-line : {m : Line} → l ≡ m → min (line-length (flat-length (book-of b)) (line-told m)) length-cap ≡ capped-length
-  of-the-line f = ap (λ x. min (line-length (flat-length (book-of b)) x) length-cap) (ap line-told (sym f) ∙ e)
+    pub CALL-looked-up : {q : ℕ} → l ≡ line.Call q → getD row q 0 ≡ min (said q) cap
+    CALL-looked-up d = w .each _ (CALL-below b c l k j t h s e d)
 
-  pub INC-length : {g : Reg} → l ≡ line.Inc g → 1 ≡ capped-length
-  unfolding line-length line-told
-  INC-length f = of-the-line f
+    pub REPEAT-looked-up : {g : Reg} {q : ℕ} → l ≡ line.Repeat g q → getD row q 0 ≡ min (said q) cap
+    REPEAT-looked-up d = w .each _ (REPEAT-below b c l k j t h s e d)
 
-  pub DEC-length : {g : Reg} {u : RoutineLine} → l ≡ line.Dec g u → 1 ≡ capped-length
-  unfolding line-length line-told
-  DEC-length f = of-the-line f
+  -- CALL the length of the routine; REPEAT that length plus 2.
+  module _ (row : List ℕ) (w : Row (flat-length (book-of b)) length-cap k row) where
+    pub CALL-length : {q : ℕ} → l ≡ line.Call q → getD row q 0 ≡ min (flat-length (book-of b) q) length-cap
+    CALL-length = CALL-looked-up (flat-length (book-of b)) length-cap row w
 
-  pub GO-TO-length : {u : RoutineLine} → l ≡ line.GoTo u → 1 ≡ capped-length
-  unfolding line-length line-told
-  GO-TO-length f = of-the-line f
+    module _ {g : Reg} {q : ℕ} (d : l ≡ line.Repeat g q) where
+      looked-up : getD row q 0 ≡ min (flat-length (book-of b) q) length-cap
+      looked-up = REPEAT-looked-up (flat-length (book-of b)) length-cap row w d
 
-  pub CALL-length : {q : ℕ} → l ≡ line.Call q → getD row q 0 ≡ capped-length
-  unfolding line-length line-told
-  CALL-length f = w .each _ (CALL-below b c l k j t h s e f) ∙ of-the-line f
+      pub REPEAT-length-fits : Fits w32 (getD row q 0 + 2)
+      REPEAT-length-fits = record { fits = omega (arith, looked-up) }
 
-  pub REPEAT-length : {g : Reg} {q : ℕ} (n : ℕ) → l ≡ line.Repeat g q → n ≡ min (getD row q 0 + 2) length-cap → n ≡ capped-length
-  unfolding line-length line-told
-  REPEAT-length {q = q} n f d =
-      omega (arith, d, w .each q (REPEAT-below b c l k j t h s e f), of-the-line f)
+      pub REPEAT-length : (n : ℕ) → n ≡ min (getD row q 0 + 2) length-cap
+          → n ≡ min (line-length (flat-length (book-of b)) (line-of (fields-in b k j))) length-cap
+      unfolding line-length line-told
+      REPEAT-length n f = length-is n d (omega (arith, f, looked-up))
 
-  pub REPEAT-length-fits : {g : Reg} {q : ℕ} → l ≡ line.Repeat g q → Fits w32 (getD row q 0 + 2)
-  REPEAT-length-fits {q = q} f = record { fits = omega (arith, w .each q (REPEAT-below b c l k j t h s e f)) }
+-- ---- the table of starts
 
 pub part-is : (b : List ℕ) (k m n : ℕ) → m ≡ first-line b k → n ≡ m + k → n ≡ slot b k 0
 unfolding slot
 part-is b k m n e f = omega (arith, e, f)
-
--- ---- the table of starts
 
 module _ (b : List ℕ) (c : Counts) (k : ℕ) (t : Taken-with b c) (h : k < c .routines) where
   here : k < routines b

@@ -3,8 +3,10 @@
 use borrow.Author.Needs.{needs}
 use Rattle.flatten.proofs.depth.line_depth.Statement.{statement}
 use Rattle.flatten.proofs.depth.line_depth.Tie as tie
+use Rattle.scope.specs.Book.{used}
+use Rattle.book.specs.Told.{line-told}
 use Rattle.flatten.proofs.Rows.{CALL-in-the-row, REPEAT-in-the-row}
-use Rattle.flatten.proofs.Deepest.{INC-depth, DEC-depth, GO-TO-depth, CALL-depth, REPEAT-depth}
+use Rattle.flatten.proofs.Deepest.{depth-is, CALL-depth, REPEAT-depth}
 
 line-at-requires : tie.Need-line-at-requires
 line-at-requires c κs = search needs
@@ -43,19 +45,24 @@ shared-slice-read-result-2 : tie.Need-shared-slice-read-result-2
 shared-slice-read-result-2 c = search REPEAT-in-the-row
 
 returns : tie.Need-returns
-returns c = search INC-depth
+unfolding used line-told
+returns c = search depth-is
 
 returns-2 : tie.Need-returns-2
-returns-2 c = search DEC-depth
+unfolding used line-told
+returns-2 c = search depth-is
 
 returns-3 : tie.Need-returns-3
-returns-3 c = search GO-TO-depth
+unfolding used line-told
+returns-3 c = search depth-is
 
 returns-4 : tie.Need-returns-4
-returns-4 c = search CALL-depth
+unfolding used line-told
+returns-4 c = search (depth-is, CALL-depth)
 
 returns-5 : tie.Need-returns-5
-returns-5 c = search REPEAT-depth
+unfolding used line-told
+returns-5 c = search (depth-is, REPEAT-depth)
 
 pub line-depth-spec : {M : Type 1} → statement M
 line-depth-spec =

@@ -3,7 +3,9 @@
 use borrow.Author.Needs.{needs}
 use Rattle.flatten.proofs.lengths.line_length.Statement.{statement}
 use Rattle.flatten.proofs.lengths.line_length.Tie as tie
-use Rattle.flatten.proofs.Rows.{CALL-in-the-row, REPEAT-in-the-row, INC-length, DEC-length, GO-TO-length, CALL-length, REPEAT-length, REPEAT-length-fits}
+use Rattle.scope.specs.Flattening.{line-length}
+use Rattle.book.specs.Told.{line-told}
+use Rattle.flatten.proofs.Rows.{length-is, CALL-in-the-row, REPEAT-in-the-row, CALL-length, REPEAT-length-fits, REPEAT-length}
 
 line-at-requires : tie.Need-line-at-requires
 line-at-requires c κs = search needs
@@ -48,16 +50,20 @@ capped-requires : tie.Need-capped-requires
 capped-requires c κs = search needs
 
 returns : tie.Need-returns
-returns c = search INC-length
+unfolding line-length line-told
+returns c = search length-is
 
 returns-2 : tie.Need-returns-2
-returns-2 c = search DEC-length
+unfolding line-length line-told
+returns-2 c = search length-is
 
 returns-3 : tie.Need-returns-3
-returns-3 c = search GO-TO-length
+unfolding line-length line-told
+returns-3 c = search length-is
 
 returns-4 : tie.Need-returns-4
-returns-4 c = search CALL-length
+unfolding line-length line-told
+returns-4 c = search (length-is, CALL-length)
 
 returns-5 : tie.Need-returns-5
 returns-5 c = search REPEAT-length
