@@ -1,148 +1,17 @@
 /* Each exported call beside its plain C version, on the same inputs in the same run. In the ratio, above 1 the exported call is faster. */
+#include "makers.h"
 #include "plain.h"
 
 #include <stdio.h>
 #include <string.h>
 #include <time.h>
 
-enum { INC = 1, DEC, GO_TO, CALL };
-enum { MOST_LINES = 4096, FRONT = 16, ROUNDS = 101 };
+enum { ROUNDS = 101, MOST_ROOM = 16 + 4 * MOST_LINES };
 
-static uint8_t book[12 + 4 * 32 + 4 * MOST_LINES];
-static size_t book_len;
-static unsigned lines_put;
-
-static void put_two(size_t at, unsigned n)
-{
-    book[at] = (uint8_t)n;
-    book[at + 1] = (uint8_t)(n >> 8);
-}
-
-static void line(unsigned kind, unsigned reg, unsigned operand)
-{
-    size_t at = FRONT + 4 * (size_t)lines_put++;
-    book[at] = (uint8_t)kind;
-    book[at + 1] = (uint8_t)reg;
-    put_two(at + 2, operand);
-}
-
-/* The header of a book of one routine, over the lines that were put. */
-static void close_book(void)
-{
-    book_len = FRONT + 4 * (size_t)lines_put;
-    unsigned header[8] = {1, 1, lines_put, 12, FRONT, (unsigned)book_len, 0, lines_put};
-    for (int i = 0; i < 8; i++)
-        put_two(2 * (size_t)i, header[i]);
-}
-
-/* -- the books. Each maker leaves a whole one. -- */
-
-/* While R0 is above 0: R1 is drained into R2, and R2 back into R1. */
-static void nested_drains(void)
-{
-    line(DEC, 0, 7);
-    line(DEC, 1, 4);
-    line(INC, 2, 0);
-    line(GO_TO, 0, 1);
-    line(DEC, 2, 0);
-    line(INC, 1, 0);
-    line(GO_TO, 0, 4);
-    close_book();
-}
-
-static void go_to_itself(void)
-{
-    line(GO_TO, 0, 0);
-    close_book();
-}
-
-static void straight(void)
-{
-    for (unsigned i = 0; i + 1 < MOST_LINES; i++)
-        line(i % 2 ? DEC : GO_TO, i % 2 ? i % 32 : 0, i + 1);
-    line(GO_TO, 0, 0);
-    close_book();
-}
-
-/* Sample A's flat book: REPEAT 0 of INC 1. */
-static void repeat_of_inc(void)
-{
-    line(DEC, 0, 3);
-    line(INC, 1, 0);
-    line(GO_TO, 0, 0);
-    close_book();
-}
-
-static void all_inc(void)
-{
-    for (unsigned i = 0; i < MOST_LINES; i++)
-        line(INC, i % 32, 0);
-    close_book();
-}
-
-static void all_go_to_the_end(void)
-{
-    for (unsigned i = 0; i < MOST_LINES; i++)
-        line(GO_TO, 0, MOST_LINES);
-    close_book();
-}
-
-static void all_dec_to_the_end(void)
-{
-    for (unsigned i = 0; i < MOST_LINES; i++)
-        line(DEC, i % 32, MOST_LINES);
-    close_book();
-}
-
-static void all_mixed(void)
-{
-    uint32_t x = 1;
-    for (unsigned i = 0; i < MOST_LINES; i++) {
-        x = x * 1664525 + 1013904223;
-        unsigned kind = INC + (x >> 24) % 3, reg = (x >> 16) % 32, target = (x >> 8) % (MOST_LINES + 1);
-        line(kind, kind == GO_TO ? 0 : reg, kind == INC ? 0 : target);
-    }
-    close_book();
-}
-
-static void last_line_bad(void)
-{
-    all_dec_to_the_end();
-    lines_put--;
-    line(CALL, 0, 0);
-    close_book();
-}
-
-/* A book of 32 routines of 128 lines, lines of all kinds mixed: it passes the check, and is then refused with 15. */
-static void thirty_two_routines(void)
-{
-    uint32_t x = 1;
-    size_t at = 12 + 4 * 32;
-    book_len = at + 4 * (size_t)MOST_LINES;
-    unsigned header[6] = {1, 32, MOST_LINES, 12, (unsigned)at, (unsigned)book_len};
-    for (int i = 0; i < 6; i++)
-        put_two(2 * (size_t)i, header[i]);
-    for (unsigned i = 0; i < MOST_LINES; i++, at += 4) {
-        unsigned routine = i / 128;
-        x = x * 1664525 + 1013904223;
-        unsigned kind = INC + (x >> 24) % (routine ? 5 : 3), reg = (x >> 16) % 32;
-        book[at] = (uint8_t)kind;
-        book[at + 1] = (uint8_t)(kind == GO_TO || kind == CALL ? 0 : reg);
-        put_two(at + 2, kind == INC ? 0 : kind <= GO_TO ? (x >> 8) % 129 : (x >> 8) % routine);
-        put_two(12 + 4 * (size_t)routine, 128 * routine);
-        put_two(12 + 4 * (size_t)routine + 2, 128);
-    }
-}
-
-static void wrong_format(void)
-{
-    all_inc();
-    put_two(0, 2);
-}
+/* The row's book. What is left of ours stands at 0, of plain C at 1. */
+static struct book book;
 
 /* -- measuring -- */
-
-typedef struct zn_run_answer call(const uint8_t *, size_t, size_t, uint8_t *, size_t, uint64_t);
 
 static double seconds(void)
 {
@@ -151,37 +20,99 @@ static double seconds(void)
     return (double)t.tv_sec + 1e-9 * (double)t.tv_nsec;
 }
 
-/* How long so many calls take, each from the same registers; the last answer and registers are left. */
-static double timed(call *f, uint64_t budget, int calls, struct zn_run_answer *a, uint8_t regs[64], const uint8_t given[64])
+/* How long a round of calls takes, of ours or of plain C. */
+typedef double timing(const void *row, int plain);
+
+struct times {
+    double ours, plain;
+};
+
+/* The best of some rounds of each, turn by turn. */
+static struct times best_of(timing *timed, const void *row)
 {
-    double begin = seconds();
-    for (int i = 0; i < calls; i++) {
-        memcpy(regs, given, 64);
-        *a = f(book, book_len, 0, regs, 64, budget);
+    struct times best = {1e9, 1e9};
+    for (int round = 0; round < ROUNDS; round++) {
+        double t = timed(row, 0), u = timed(row, 1);
+        best.ours = t < best.ours ? t : best.ours;
+        best.plain = u < best.plain ? u : best.plain;
     }
+    return best;
+}
+
+/* Prints a row as fields parted by tabs: call, name, time of ours, of plain C, what of, ratio. Answers 1 where the two differ. */
+static int told(const char *call, const char *name, struct times t, double units, const char *unit, int same)
+{
+    if (same)
+        printf("%s\t%s\t%.2f\t%.2f\t%s\t%.2f\n", call, name, t.ours * units, t.plain * units, unit, t.plain / t.ours);
+    else
+        printf("%s: %s: THE TWO ANSWER DIFFERENTLY\n", call, name);
+    return !same;
+}
+
+/* -- flattening -- */
+
+/* A row: a book, the routine, and how many calls make a round. Where they are many the calls are short, and are told in ns. */
+struct flatten_row {
+    const char *name;
+    struct book (*make)(void);
+    size_t routine;
+    int calls;
+};
+
+/* Among them the slowest books that we know. No call of ours is to take more than 5 ms; that is read off, and never tested. */
+static const struct flatten_row flatten_rows[] = {
+    {"sample A", sample_a, 1, 5000},
+    {"one routine of 4,096 lines, the three mixed", all_mixed, 0, 20},
+    {"32 routines of 64 lines, calls three deep", three_deep, 31, 20},
+    {"sample H, routine 12", sample_h, 12, 20},
+    {"a jump behind 3,000 empty calls, 4,096 times", behind_empty_calls, 13, 1},
+    {"31 deep, 132 lines each, doubled outside", doubled_outside, 31, 1},
+    {"31 deep, 132 lines each, doubled inside", doubled_inside, 31, 1},
+    {"thirty doublings of an empty routine", empty_tower, 30, 2000},
+    {"13 TOO LONG, 31 doublings of a line", tower_of_a_line, 31, 2000},
+};
+
+static struct zn_flatten_answer flattened[2];
+static uint8_t out[2][MOST_ROOM];
+
+static double timed_flatten(const void *row, int plain)
+{
+    const struct flatten_row *r = row;
+    struct zn_flatten_answer (*f)(const uint8_t *, size_t, size_t, uint8_t *, size_t) = plain ? plain_flatten : zn_flatten;
+    double begin = seconds();
+    for (int i = 0; i < r->calls; i++)
+        flattened[plain] = f(book.bytes, book.length, r->routine, out[plain], MOST_ROOM);
     return seconds() - begin;
 }
 
-static int same(const struct zn_run_answer *a, const struct zn_run_answer *b)
+static int compare_flatten(const struct flatten_row *r)
 {
-    return a->refusal == b->refusal && a->place == b->place && a->outcome == b->outcome && a->reg == b->reg && a->steps == b->steps && a->line == b->line;
+    const struct zn_flatten_answer *a = &flattened[0], *b = &flattened[1];
+    book = r->make();
+    memset(out, 0, sizeof out);
+    struct times t = best_of(timed_flatten, r);
+    int same = a->refusal == b->refusal && a->place == b->place && a->lines == b->lines && memcmp(out[0], out[1], MOST_ROOM) == 0;
+    int in_ns = r->calls > 100;
+    return told("zn_flatten", r->name, t, (in_ns ? 1e9 : 1e6) / r->calls, in_ns ? "ns a call" : "us a call", same);
 }
 
+/* -- running -- */
+
 /* A row: a book, R0 and R1 at the start, a budget, and how many calls make a round. */
-struct row {
+struct run_row {
     const char *name;
-    void (*make)(void);
+    struct book (*make)(void);
     unsigned r0, r1;
     uint64_t budget;
     int calls;
 };
 
-static const struct row rows[] = {
+static const struct run_row run_rows[] = {
     {"(a) two nested draining loops", nested_drains, 65535, 100, 2000000, 1},
-    {"(b) GO TO itself", go_to_itself, 0, 0, 2000000, 1},
+    {"(b) GO TO itself", sample_f, 0, 0, 2000000, 1},
     {"(c) 4,095 lines to the next, then GO TO 0", straight, 0, 0, 2000000, 1},
-    {"sample A, R0 = 65,535", repeat_of_inc, 65535, 0, UINT64_MAX, 5},
-    {"sample A, budget 10", repeat_of_inc, 3, 4, 10, 5000},
+    {"sample A, R0 = 65,535", flat_a, 65535, 0, UINT64_MAX, 5},
+    {"sample A, budget 10", flat_a, 3, 4, 10, 5000},
     {"check of 4,096 lines, INC", all_inc, 0, 0, 0, 200},
     {"check of 4,096 lines, GO TO the end", all_go_to_the_end, 0, 0, 0, 200},
     {"check of 4,096 lines, DEC to the end", all_dec_to_the_end, 0, 0, 0, 200},
@@ -191,36 +122,40 @@ static const struct row rows[] = {
     {"check of a book in another format", wrong_format, 0, 0, 0, 20000},
 };
 
-/* The best of some rounds of each, turn by turn, as fields parted by tabs: name, ns of ours, ns of plain C, 'step' or 'call', ratio.
-   Ends with 1 where the two answer differently. */
-static int compare(const struct row *r)
+static struct zn_run_answer ran[2];
+static uint8_t regs[2][64];
+
+/* Each call begins from the same registers. */
+static double timed_run(const void *row, int plain)
 {
+    const struct run_row *r = row;
+    struct zn_run_answer (*f)(const uint8_t *, size_t, size_t, uint8_t *, size_t, uint64_t) = plain ? plain_run : zn_run;
     uint8_t given[64] = {(uint8_t)r->r0, (uint8_t)(r->r0 >> 8), (uint8_t)r->r1, (uint8_t)(r->r1 >> 8)};
-    struct zn_run_answer ours, plain;
-    uint8_t regs[64], plain_regs[64];
-    double best = 1e9, plain_best = 1e9;
-    lines_put = 0;
-    r->make();
-    for (int round = 0; round < ROUNDS; round++) {
-        double t = timed(zn_run, r->budget, r->calls, &ours, regs, given);
-        double u = timed(plain_run, r->budget, r->calls, &plain, plain_regs, given);
-        best = t < best ? t : best;
-        plain_best = u < plain_best ? u : plain_best;
+    double begin = seconds();
+    for (int i = 0; i < r->calls; i++) {
+        memcpy(regs[plain], given, 64);
+        ran[plain] = f(book.bytes, book.length, 0, regs[plain], 64, r->budget);
     }
-    if (!same(&ours, &plain) || memcmp(regs, plain_regs, 64)) {
-        printf("%s: THE TWO ANSWER DIFFERENTLY\n", r->name);
-        return 1;
-    }
-    int by_step = ours.steps > 1000;
-    double units = 1e9 / r->calls / (by_step ? (double)ours.steps : 1);
-    printf("%s\t%.2f\t%.2f\t%s\t%.2f\n", r->name, best * units, plain_best * units, by_step ? "step" : "call", plain_best / best);
-    return 0;
+    return seconds() - begin;
+}
+
+static int compare_run(const struct run_row *r)
+{
+    const struct zn_run_answer *a = &ran[0], *b = &ran[1];
+    book = r->make();
+    struct times t = best_of(timed_run, r);
+    int same_end = a->outcome == b->outcome && a->reg == b->reg && a->steps == b->steps && a->line == b->line && memcmp(regs[0], regs[1], 64) == 0;
+    int same = a->refusal == b->refusal && a->place == b->place && same_end, by_step = a->steps > 1000;
+    double units = 1e9 / r->calls / (by_step ? (double)a->steps : 1);
+    return told("zn_run", r->name, t, units, by_step ? "ns a step" : "ns a call", same);
 }
 
 int main(void)
 {
     int wrong = 0;
-    for (size_t i = 0; i < sizeof rows / sizeof *rows; i++)
-        wrong |= compare(&rows[i]);
+    for (size_t i = 0; i < sizeof flatten_rows / sizeof *flatten_rows; i++)
+        wrong |= compare_flatten(&flatten_rows[i]);
+    for (size_t i = 0; i < sizeof run_rows / sizeof *run_rows; i++)
+        wrong |= compare_run(&run_rows[i]);
     return wrong;
 }

@@ -1,9 +1,14 @@
-/* Running in plain quick C: the same tests in the same order, the same bytes read where they stand. Built with -O3. */
+/* Flattening and running in plain quick C: the same tests in the same order, the same bytes read where they stand. Built with -O3. */
 #include "plain.h"
 
 enum { HEADER = 12, ENTRY = 4, LINE = 4, ROUTINES = 32, LINES = 4096, REGISTERS = 32, TOP = 65535 };
 enum { INC = 1, DEC, GO_TO, CALL, REPEAT };
-enum { SHORT = 1, FORMAT, COUNTS, OFFSETS, LENGTH, ROUTINE, KIND, REGISTER, TARGET, CALLEE, NOT_FLAT = 15, NOT_32, PAST_END };
+enum {
+    SHORT = 1, FORMAT, COUNTS, OFFSETS, LENGTH, ROUTINE, KIND, REGISTER, TARGET, CALLEE,
+    DEPTH, NO_ROUTINE, TOO_LONG, NO_ROOM, NOT_FLAT, NOT_32, PAST_END
+};
+
+/* -- the book -- */
 
 struct refusal {
     unsigned number, place;
@@ -71,6 +76,117 @@ static struct refusal check(const uint8_t *b, size_t len)
     }
     return refuse(0, 0);
 }
+
+/* -- flattening -- */
+
+/* A checked book: its routines, and where each line starts in a copy of its routine. A routine of n lines has n + 1 starts, the last of
+   them its end; so those of routine r begin r places behind its first line. A length above the limit is kept as one more than it. */
+struct plan {
+    const uint8_t *lines;
+    unsigned first[ROUTINES], count[ROUTINES], length[ROUTINES], depth[ROUTINES];
+    uint16_t starts[LINES + ROUTINES];
+};
+
+/* Lengths and depths from the lowest routine up to the asked one. */
+static void plan_up_to(struct plan *p, const uint8_t *book, unsigned routine)
+{
+    p->lines = book + HEADER + ENTRY * two(book + 2);
+    for (unsigned r = 0; r <= routine; r++) {
+        unsigned first = two(book + HEADER + ENTRY * r), count = two(book + HEADER + ENTRY * r + 2), length = 0, depth = 0;
+        const uint8_t *line = p->lines + LINE * first;
+        uint16_t *start = p->starts + first + r;
+        for (unsigned j = 0; j < count; j++, line += LINE) {
+            *start++ = (uint16_t)length;
+            if (line[0] < CALL) {
+                length++;
+            } else {
+                unsigned callee = two(line + 2);
+                length += p->length[callee] + (line[0] == REPEAT ? 2 : 0);
+                depth = p->depth[callee] > depth ? p->depth[callee] : depth;
+            }
+            length = length > LINES ? LINES + 1 : length;
+        }
+        *start = (uint16_t)length;
+        p->first[r] = first;
+        p->count[r] = count;
+        p->length[r] = length;
+        p->depth[r] = depth + 1;
+    }
+}
+
+static void put_two(uint8_t *p, unsigned n)
+{
+    p[0] = (uint8_t)n;
+    p[1] = (uint8_t)(n >> 8);
+}
+
+static void put_line(uint8_t *p, unsigned kind, unsigned reg, unsigned operand)
+{
+    p[0] = (uint8_t)kind;
+    p[1] = (uint8_t)reg;
+    put_two(p + 2, operand);
+}
+
+/* Pastes a routine into the flat lines from line `base` on. Answers the line behind the copy. */
+static unsigned paste(const struct plan *p, unsigned routine, unsigned base, uint8_t *flat)
+{
+    const uint8_t *line = p->lines + LINE * p->first[routine], *end = line + LINE * p->count[routine];
+    const uint16_t *starts = p->starts + p->first[routine] + routine;
+    unsigned at = base;
+    for (; line < end; line += LINE) {
+        unsigned kind = line[0], reg = line[1], operand = two(line + 2);
+        if (kind == INC) {
+            put_line(flat + LINE * at++, INC, reg, 0);
+        } else if (kind < CALL) {
+            put_line(flat + LINE * at++, kind, reg, base + starts[operand]);
+        } else if (kind == CALL) {
+            if (p->length[operand])
+                at = paste(p, operand, at, flat);
+        } else {
+            unsigned begin = at, length = p->length[operand];
+            put_line(flat + LINE * begin, DEC, reg, begin + length + 2);
+            if (length)
+                paste(p, operand, begin + 1, flat);
+            put_line(flat + LINE * (begin + length + 1), GO_TO, 0, begin);
+            at = begin + length + 2;
+        }
+    }
+    return at;
+}
+
+static struct zn_flatten_answer not_flattened(unsigned number, unsigned place)
+{
+    struct zn_flatten_answer a = {(uint16_t)number, (uint16_t)place, 0};
+    return a;
+}
+
+struct zn_flatten_answer plain_flatten(const uint8_t *book, size_t book_len, size_t routine, uint8_t *out, size_t out_len)
+{
+    struct plan p;
+    struct zn_flatten_answer a = {0};
+    struct refusal r = check(book, book_len);
+    if (r.number)
+        return not_flattened(r.number, r.place);
+    if (routine >= two(book + 2))
+        return not_flattened(NO_ROUTINE, 0);
+    plan_up_to(&p, book, (unsigned)routine);
+    if (p.depth[routine] > ROUTINES)
+        return not_flattened(DEPTH, 0);
+    unsigned n = p.length[routine], front = HEADER + ENTRY;
+    if (n > LINES)
+        return not_flattened(TOO_LONG, 0);
+    if (out_len < front + LINE * n)
+        return not_flattened(NO_ROOM, 0);
+    unsigned header[8] = {1, 1, n, HEADER, front, front + LINE * n, 0, n};
+    for (int i = 0; i < 8; i++)
+        put_two(out + 2 * i, header[i]);
+    if (n)
+        paste(&p, (unsigned)routine, 0, out + front);
+    a.lines = n;
+    return a;
+}
+
+/* -- running -- */
 
 static struct zn_run_answer refused(unsigned number, unsigned place)
 {

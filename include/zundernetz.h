@@ -10,6 +10,18 @@
 extern "C" {
 #endif
 
+/* What flattening answers. Where it is refused, lines is 0. */
+struct zn_flatten_answer {
+    uint16_t refusal; /* 0, or the number of the refusal */
+    uint16_t place;   /* the refusal's place */
+    size_t lines;     /* the flat length n */
+};
+
+/* Flattens one routine of a book, with all that it uses. The flat book is written at the front of out: 16 + 4n bytes, at most 16,400;
+   bytes behind them stay. A refusal writes nothing. What the caller owes: book points to book_len bytes and out to out_len bytes, and
+   the two do not overlap; where a length is 0 its pointer may be NULL. Any bytes and numbers may be given. */
+struct zn_flatten_answer zn_flatten(const uint8_t *book, size_t book_len, size_t routine, uint8_t *out, size_t out_len);
+
 /* The outcome of a run. 0 where it is refused. */
 enum zn_outcome { ZN_FINISHED = 1, ZN_OUT_OF_STEPS = 2, ZN_FULL = 3 };
 

@@ -5,6 +5,7 @@
 #include "edge.h"
 
 enum { INC = 1, DEC, GO_TO, CALL, REPEAT };
+enum { MOST_ROUTINES = 32, MOST_LINES = 4096 };
 
 struct book {
     uint8_t bytes[ROOM];
@@ -24,5 +25,40 @@ void line(struct book *b, size_t routines, size_t i, unsigned kind, unsigned reg
 
 /* A book of one routine. A line is its kind, register and operand. */
 struct book flat(unsigned n, const unsigned lines[][3]);
+
+/* A book of some routines with so many lines each. The lines stand one routine after another. */
+struct book nested(unsigned routines, const unsigned counts[], const unsigned lines[][3]);
+
+/* -- a book that grows, routine by routine and line by line -- */
+
+struct text {
+    unsigned routines, lines, counts[MOST_ROUTINES], fields[MOST_LINES][3];
+};
+
+/* A further routine, without lines. */
+void add_routine(struct text *t);
+
+/* A further line, so many times, in the last routine. */
+void add_lines(struct text *t, unsigned times, unsigned kind, unsigned reg, unsigned operand);
+
+/* So many further routines, each calling the one before so many times. */
+void add_tower(struct text *t, unsigned routines, unsigned times);
+
+/* The text as bytes. What stands behind the book's bytes is left there. */
+void write_book(struct book *b, const struct text *t);
+
+struct book book_of(const struct text *t);
+
+/* A first routine of so many lines of INC 0, and 31 routines that each call the one before so many times. */
+struct book tower(unsigned lines, unsigned times);
+
+/* Routine 0 is empty. Routine 1 has 3,000 calls of it and a jump to its own end. 12 doublings: routine 13 has 4,096 flat lines. */
+struct book behind_empty_calls(void);
+
+/* 32 routines of 128 lines: 16,524 bytes, the longest book. Each line is GO TO its routine's end. */
+struct book longest(void);
+
+/* 4,096 lines of GO TO, each 1,237 further and around; the one that would come back to line 0 goes to the end. Line 4,000 is INC 7. */
+struct book long_way(void);
 
 #endif

@@ -1,5 +1,7 @@
 #include "paper.h"
 
+enum kind { INC = 1, DEC, GO_TO, CALL, REPEAT };
+
 static const struct refusal none = {0, 0};
 
 static struct refusal refused(int number, long place)
@@ -83,6 +85,150 @@ static struct refusal check(const uint8_t *b, size_t length)
             return refused(fault, i);
     }
     return none;
+}
+
+/* -- flattening -- */
+
+enum { MOST_ROUTINES = 32, MOST_OPEN = 32, MOST_FLAT_LINES = 4096, FAR_TOO_LONG = 1000000 };
+
+/* Lengths: INC, DEC, GO TO 1; CALL the length of the routine; REPEAT that length plus 2; .. */
+static long line_length(const uint8_t *b, const long lengths[], long i)
+{
+    if (kind(b, i) == CALL)
+        return lengths[operand(b, i)];
+    if (kind(b, i) == REPEAT)
+        return lengths[operand(b, i)] + 2;
+    return 1;
+}
+
+/* A line starts at the sum of the lengths before it. Its number of lines stands for a routine's end. */
+static long start_of(const uint8_t *b, const long lengths[], long r, long j)
+{
+    long sum = 0;
+    for (long i = 0; i < j; i++)
+        sum = sum + line_length(b, lengths, first_line(b, r) + i);
+    return sum;
+}
+
+/* .. a routine the sum of its lines. They are worked out from the lowest routine up: a recursion would never end where each of thirty
+   routines calls the one before twice. A length can be 2^224, so one that is far too long is kept as a number that is so too. */
+static void work_out_lengths(const uint8_t *b, long lengths[])
+{
+    for (long r = 0; r < routines(b); r++) {
+        lengths[r] = start_of(b, lengths, r, count(b, r));
+        if (lengths[r] > FAR_TOO_LONG)
+            lengths[r] = FAR_TOO_LONG;
+    }
+}
+
+/* How many routines are open inside one another at the most: routine r, and those of the deepest that it uses. From the lowest up too. */
+static void work_out_depths(const uint8_t *b, long depths[])
+{
+    for (long r = 0; r < routines(b); r++) {
+        depths[r] = 1;
+        for (long i = first_line(b, r); i < first_line(b, r) + count(b, r); i++)
+            if ((kind(b, i) == CALL || kind(b, i) == REPEAT) && depths[r] < 1 + depths[operand(b, i)])
+                depths[r] = 1 + depths[operand(b, i)];
+    }
+}
+
+/* The flat program, which grows line by line. */
+struct program {
+    long lines;
+    struct {
+        int kind, reg;
+        long operand;
+    } line[MOST_FLAT_LINES];
+};
+
+static void append(struct program *p, int k, int j, long n)
+{
+    p->line[p->lines].kind = k;
+    p->line[p->lines].reg = j;
+    p->line[p->lines].operand = n;
+    p->lines = p->lines + 1;
+}
+
+/* Pastes routine r behind the lines that are there: this copy of it begins where they end. A copy that leaves no line is not begun, since
+   thirty doublings of an empty routine would never end. */
+static void paste(const uint8_t *b, const long lengths[], long r, struct program *p)
+{
+    long begin = p->lines;
+    if (lengths[r] == 0)
+        return;
+    for (long i = first_line(b, r); i < first_line(b, r) + count(b, r); i++) {
+        if (kind(b, i) == INC)
+            append(p, INC, reg(b, i), 0);
+        /* A target becomes the start of that line, the end becomes the end, both moved by where this copy of the routine begins. */
+        if (kind(b, i) == DEC || kind(b, i) == GO_TO)
+            append(p, kind(b, i), reg(b, i), begin + start_of(b, lengths, r, operand(b, i)));
+        /* A CALL leaves only the copy. */
+        if (kind(b, i) == CALL)
+            paste(b, lengths, operand(b, i), p);
+        /* A REPEAT of register j that starts at p, over length s, becomes DEC j to p+s+2, the copy from p+1, then GO TO p at p+s+1. */
+        if (kind(b, i) == REPEAT) {
+            long at = p->lines, s = lengths[operand(b, i)];
+            append(p, DEC, reg(b, i), at + s + 2);
+            paste(b, lengths, operand(b, i), p);
+            append(p, GO_TO, 0, at);
+        }
+    }
+}
+
+/* The bytes of two-byte numbers, one after another. */
+static uint8_t *write_numbers(uint8_t *to, const long numbers[], int n)
+{
+    for (int i = 0; i < n; i++, to += 2) {
+        to[0] = (uint8_t)(numbers[i] % 256);
+        to[1] = (uint8_t)(numbers[i] / 256);
+    }
+    return to;
+}
+
+/* The result is a book with one routine, 16 bytes plus 4 a line. */
+static void write_flat_book(uint8_t *out, const struct program *p)
+{
+    const long front[8] = {1, 1, p->lines, 12, 12 + 4, 12 + 4 + 4 * p->lines, 0, p->lines};
+    uint8_t *to = write_numbers(out, front, 8);
+    for (long i = 0; i < p->lines; i++) {
+        *to++ = (uint8_t)p->line[i].kind;
+        *to++ = (uint8_t)p->line[i].reg;
+        to = write_numbers(to, &p->line[i].operand, 1);
+    }
+}
+
+static struct refusal flatten_refusal(const uint8_t *b, size_t length, size_t routine, size_t room)
+{
+    long lengths[MOST_ROUTINES], depths[MOST_ROUTINES];
+    struct refusal r = check(b, length);
+    if (r.number)
+        return r;
+    if (routine >= (size_t)routines(b))
+        return refused(NO_ROUTINE, 0);
+    work_out_depths(b, depths);
+    if (depths[routine] > MOST_OPEN)
+        return refused(DEPTH, 0);
+    work_out_lengths(b, lengths);
+    if (lengths[routine] > MOST_FLAT_LINES)
+        return refused(TOO_LONG, 0);
+    if (room < 16 + 4 * (size_t)lengths[routine])
+        return refused(NO_ROOM, 0);
+    return none;
+}
+
+struct flattened paper_flatten(const uint8_t *b, size_t length, size_t routine, uint8_t *out, size_t room)
+{
+    struct flattened a = {flatten_refusal(b, length, routine, room), 0};
+    long lengths[MOST_ROUTINES];
+    struct program p;
+    if (a.refusal.number)
+        return a;
+    p.lines = 0;
+    work_out_lengths(b, lengths);
+    paste(b, lengths, (long)routine, &p);
+    write_flat_book(out, &p);
+    a.lines = (size_t)p.lines;
+    return a;
 }
 
 /* -- running -- */

@@ -13,8 +13,6 @@ enum {
 
 enum outcome { NONE, FINISHED, OUT_OF_STEPS, FULL };
 
-enum kind { INC = 1, DEC, GO_TO, CALL, REPEAT };
-
 struct refusal {
     int number;
     long place;
@@ -28,6 +26,14 @@ struct ran {
     uint64_t steps;
     size_t line;
 };
+
+/* What flattening answers. The flat book stands at the front of the caller's bytes. */
+struct flattened {
+    struct refusal refusal;
+    size_t lines;
+};
+
+struct flattened paper_flatten(const uint8_t *book, size_t length, size_t routine, uint8_t *out, size_t room);
 
 struct ran paper_run(const uint8_t *book, size_t length, size_t start, uint8_t *registers, size_t registers_length, uint64_t budget);
 

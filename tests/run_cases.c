@@ -1,8 +1,8 @@
-/* Cases by hand, from C: the paper's samples, the limits, each refusal that a run can earn, and what is written. */
+/* Running, cases by hand from C: the paper's samples, the limits, each refusal that a run can earn, and what is written. */
 #include "../include/zundernetz.h"
-#include "books.h"
-#include "edge.h"
+#include "damaged.h"
 #include "report.h"
+#include "samples.h"
 
 #include <string.h>
 
@@ -70,15 +70,12 @@ static int left(int n, const unsigned expected[][2])
 
 static void samples(void)
 {
-    static const uint8_t hex[] = {0x01, 0, 0x01, 0, 0x03, 0, 0x0C, 0, 0x10, 0, 0x1C, 0, 0, 0, 0x03, 0, 2, 0, 3, 0, 1, 1, 0, 0, 3, 0, 0, 0};
-    struct book a = {{0}, sizeof hex};
-    memcpy(a.bytes, hex, sizeof hex);
+    struct book a = flat_a(), b = flat_b(), d = sample_d(), e = flat_e(), f = sample_f();
     all_zero();
     set_register(0, 3);
     set_register(1, 4);
     check(ends(run(&a, 0, 10), ZN_FINISHED, 0, 10, 3) && left(1, (const unsigned[][2]){{1, 7}}), "sample A");
 
-    struct book b = flat(6, (const unsigned[][3]){{INC, 2, 0}, {DEC, 2, 3}, {INC, 3, 0}, {GO_TO, 0, 5}, {INC, 4, 0}, {INC, 5, 0}});
     all_zero();
     check(ends(run(&b, 0, 5), ZN_FINISHED, 0, 5, 6) && left(2, (const unsigned[][2]){{3, 1}, {5, 1}}), "sample B, budget 5");
     all_zero();
@@ -92,16 +89,13 @@ static void samples(void)
     set_register(3, 65535);
     check(ends(run(&b, 0, 2), ZN_OUT_OF_STEPS, 0, 2, 2) && left(1, (const unsigned[][2]){{3, 65535}}), "sample C, budget 2");
 
-    struct book d = flat(0, 0);
     all_zero();
     check(ends(run(&d, 0, 0), ZN_FINISHED, 0, 0, 0) && left(0, 0), "sample D");
 
-    struct book e = flat(2, (const unsigned[][3]){{DEC, 9, 2}, {GO_TO, 0, 0}});
     all_zero();
     set_register(9, 2);
     check(ends(run(&e, 0, UINT64_MAX), ZN_FINISHED, 0, 5, 2) && left(0, 0), "sample E, the highest budget");
 
-    struct book f = flat(1, (const unsigned[][3]){{GO_TO, 0, 0}});
     all_zero();
     check(ends(run(&f, 0, 7), ZN_OUT_OF_STEPS, 0, 7, 0) && left(0, 0), "sample F");
 }
@@ -130,7 +124,7 @@ static void limits(void)
     check(ends(run(&down, 0, 1), ZN_FINISHED, 0, 1, 1) && left(0, 0), "DEC at 0 takes nothing off and is a step");
 
     static const uint64_t wide[] = {65536, 65541, (uint64_t)1 << 32, ((uint64_t)1 << 32) + 1, (uint64_t)1 << 63, UINT64_MAX};
-    struct book e = flat(2, (const unsigned[][3]){{DEC, 9, 2}, {GO_TO, 0, 0}});
+    struct book e = flat_e();
     int all_end = 1;
     for (size_t i = 0; i < sizeof wide / sizeof *wide; i++) {
         all_zero();
@@ -141,17 +135,6 @@ static void limits(void)
 }
 
 /* -- long books and long runs -- */
-
-/* 4,096 lines of GO TO, each 1,237 further and around; the one that would come back to line 0 goes to the end. Line 4,000 is INC 7. */
-static struct book long_way(void)
-{
-    struct book b = headed(1, 4096);
-    entry(&b, 0, 0, 4096);
-    for (size_t i = 0; i < 4096; i++)
-        line(&b, 1, i, GO_TO, 0, (i + 1237) % 4096 ? (i + 1237) % 4096 : 4096);
-    line(&b, 1, 4000, INC, 7, 0);
-    return b;
-}
 
 static void long_books(void)
 {
@@ -179,125 +162,28 @@ static void long_books(void)
 
 static void long_runs(void)
 {
-    struct book a = flat(3, (const unsigned[][3]){{DEC, 0, 3}, {INC, 1, 0}, {GO_TO, 0, 0}});
+    struct book a = flat_a(), f = sample_f();
     all_zero();
     set_register(0, 65535);
     check(ends(run(&a, 0, 196606), ZN_FINISHED, 0, 196606, 3) && left(1, (const unsigned[][2]){{1, 65535}}), "sample A, as many steps as its quote");
     all_zero();
     set_register(0, 65535);
     check(ends(run(&a, 0, 196605), ZN_OUT_OF_STEPS, 0, 196605, 0) && left(1, (const unsigned[][2]){{1, 65535}}), "sample A, one step less");
-    struct book f = flat(1, (const unsigned[][3]){{GO_TO, 0, 0}});
     check(ends(run(&f, 0, 10000000), ZN_OUT_OF_STEPS, 0, 10000000, 0), "sample F, 10,000,000 steps");
 }
 
 /* -- refusals, each with its place and in its order -- */
 
-/* Routine 0: INC 0. Routine 1: CALL 0; GO TO 2. */
-static struct book two_routines(void)
+static int refuses_damaged(const struct book *b, size_t length, unsigned number, unsigned place)
 {
-    struct book b = headed(2, 3);
-    entry(&b, 0, 0, 1);
-    entry(&b, 1, 1, 2);
-    line(&b, 2, 0, INC, 0, 0);
-    line(&b, 2, 1, CALL, 0, 0);
-    line(&b, 2, 2, GO_TO, 0, 2);
-    return b;
-}
-
-/* That book with one number of its header or of an entry changed. */
-static void refusals_of_numbers(void)
-{
-    static const struct {
-        const char *name;
-        unsigned at, value, number, place;
-    } changes[] = {
-        {"2 FORMAT", 0, 257, 2, 0},
-        {"3 COUNTS, no routine", 2, 0, 3, 0},
-        {"4 OFFSETS, of the routine table", 6, 13, 4, 0},
-        {"4 OFFSETS, of the line table", 8, 21, 4, 0},
-        {"4 OFFSETS, the stated length", 10, 33, 4, 0},
-        {"6 ROUTINE, the first not at 0", 12, 1, 6, 0},
-        {"6 ROUTINE, a gap", 16, 2, 6, 1},
-        {"6 ROUTINE, the last not to L", 18, 1, 6, 1},
-    };
-    for (size_t i = 0; i < sizeof changes / sizeof *changes; i++) {
-        struct book b = two_routines();
-        put(&b, changes[i].at, changes[i].value);
-        check(refuses(&b, b.length, 0, 64, changes[i].number, changes[i].place), changes[i].name);
-    }
-}
-
-/* That book with one line changed. The place is that line. */
-static void refusals_of_lines(void)
-{
-    static const struct {
-        const char *name;
-        unsigned line, kind, reg, operand, number;
-    } changes[] = {
-        {"7 KIND 0", 1, 0, 0, 0, 7},
-        {"7 KIND 6", 2, 6, 0, 0, 7},
-        {"8 REGISTER 32", 0, INC, 32, 0, 8},
-        {"8 REGISTER, not 0 where 0 stands", 2, GO_TO, 1, 0, 8},
-        {"9 TARGET, INC's operand", 0, INC, 0, 1, 9},
-        {"9 TARGET past the end", 2, DEC, 0, 3, 9},
-        {"10 CALLEE, itself", 1, CALL, 0, 1, 10},
-        {"10 CALLEE of the first routine", 0, REPEAT, 0, 0, 10},
-    };
-    for (size_t i = 0; i < sizeof changes / sizeof *changes; i++) {
-        struct book b = two_routines();
-        line(&b, 2, changes[i].line, changes[i].kind, changes[i].reg, changes[i].operand);
-        check(refuses(&b, b.length, 0, 64, changes[i].number, changes[i].line), changes[i].name);
-    }
-}
-
-static void refusals_of_other_books(void)
-{
-    struct book b = two_routines(), w;
-    check(refuses(&b, 0, 0, 64, 1, 0) && refuses(&b, 11, 0, 64, 1, 0), "1 SHORT");
-    check(refuses(&b, b.length - 1, 0, 64, 5, 0) && refuses(&b, b.length + 1, 0, 64, 5, 0), "5 LENGTH");
-    w = headed(33, 0);
-    check(refuses(&w, w.length, 0, 64, 3, 0), "3 COUNTS, 33 routines");
-    w = headed(1, 4097);
-    check(refuses(&w, w.length, 0, 64, 3, 0), "3 COUNTS, 4,097 lines");
-    w = b, entry(&w, 0, 0, 65535), entry(&w, 1, 65535, 4);
-    check(refuses(&w, w.length, 0, 64, 6, 1), "6 ROUTINE, a sum that would wrap in 16 bits");
-    w = b, line(&w, 2, 2, 9, 40, 9), line(&w, 2, 1, DEC, 32, 9);
-    check(refuses(&w, w.length, 0, 64, 8, 1), "the lowest bad line, and of it the first test");
-}
-
-/* 32 routines of 128 lines: 16,524 bytes, the longest book. Each line is GO TO its routine's end. */
-static struct book longest(void)
-{
-    struct book b = headed(32, 4096);
-    for (unsigned r = 0; r < 32; r++)
-        entry(&b, r, 128 * r, 128);
-    for (size_t i = 0; i < 4096; i++)
-        line(&b, 32, i, GO_TO, 0, 128);
-    return b;
-}
-
-static void refusals_of_the_longest(void)
-{
-    struct book b = longest(), w;
-    check(b.length == 16524 && refuses(&b, b.length, 0, 64, 15, 0), "the longest book is taken, and not flat");
-    w = b, line(&w, 32, 4095, DEC, 0, 129);
-    check(refuses(&w, w.length, 0, 64, 9, 4095), "9 TARGET in the last of 4,096 lines");
-    w = b, line(&w, 32, 300, REPEAT, 31, 2);
-    check(refuses(&w, w.length, 0, 64, 10, 300), "10 CALLEE in line 300");
-    w = b, entry(&w, 20, 2560, 127);
-    check(refuses(&w, w.length, 0, 64, 6, 21), "6 ROUTINE, the entry behind a short one");
-    w = b, entry(&w, 31, 3968, 127);
-    check(refuses(&w, w.length, 0, 64, 6, 31), "6 ROUTINE, the last of 32 not to L");
-    check(refuses(&b, b.length + 65536, 0, 64, 5, 0), "5 LENGTH, longer by 65,536");
+    return refuses(b, length, 0, 64, number, place) && refuses(b, length, SIZE_MAX, 63, number, place);
 }
 
 static void refusals_of_the_run(void)
 {
-    struct book two = headed(2, 1);
-    entry(&two, 0, 0, 0);
-    entry(&two, 1, 0, 1);
-    line(&two, 2, 0, CALL, 0, 0);
+    struct book two = sample_e(), most = longest();
     check(refuses(&two, two.length, 0, 64, 15, 0), "15 NOT FLAT");
+    check(most.length == 16524 && refuses(&most, most.length, 0, 64, 15, 0), "the longest book is taken, and not flat");
     check(refuses(&two, two.length, 9, 63, 15, 0), "15 before 16 and 17");
 
     struct book one = flat(1, (const unsigned[][3]){{INC, 0, 0}});
@@ -327,10 +213,7 @@ int main(void)
     limits();
     long_books();
     long_runs();
-    refusals_of_numbers();
-    refusals_of_lines();
-    refusals_of_other_books();
-    refusals_of_the_longest();
+    check_damaged(refuses_damaged);
     refusals_of_the_run();
     return report();
 }
