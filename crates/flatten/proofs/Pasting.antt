@@ -8,10 +8,10 @@ use native.Mathlib.Numerals.{add-one}
 use mathlib.Core.Path.{_≡_, refl, sym, _∙_, ap}
 use mathlib.Core.Logic.{_≢_}
 use mathlib.Core.List.{List, [], _∷_, append-nil}
-use lib.ListN.{drop}
+use lib.ListN.{length, drop, set, length-set}
 use Rattle.scope.specs.Ram.{Program, Has, has}
 use Rattle.scope.specs.Book as book
-use Rattle.scope.specs.Book.{Book, most-lines, routines, count, REPEAT, line-of, fields-in, routine, Taken, Line-uses, by-CALL, by-REPEAT, Callees-below, book-of}
+use Rattle.scope.specs.Book.{Book, most-routines, most-lines, routines, count, REPEAT, line-of, fields-in, routine, Taken, Line-uses, by-CALL, by-REPEAT, Callees-below, book-of}
 use Rattle.scope.specs.Flattening.{line-length, flat-length, start, copy-line, copy, flat-program, most-flat-lines}
 use Rattle.scope.proofs.TakenBook.{taken-book, taken-callees-below, line-in-the-book, routine-ends}
 use Rattle.scope.proofs.FlatLines.{first-start, next-start, end-start, start-within, Stands, line-stands, repeat-looks, repeated-copy-stands, repeat-goes-back}
@@ -31,7 +31,7 @@ use Rattle.flatten.specs.declared.copying.Pasted.{Pasted}
 use Rattle.flatten.specs.declared.copying.Inside.{Inside}
 use Rattle.flatten.specs.declared.copying.Inside.the-variants as inside
 use Rattle.flatten.specs.Rows.{length-cap, Table}
-use Rattle.flatten.specs.Copies.{Copy-within, In-the-copy, In-the-line, Has-copy, Lies-in, Comes-to, Pasted-at, Deeper-there, Inside-is}
+use Rattle.flatten.specs.Copies.{Copy-within, In-the-copy, In-the-line, Line-around, Has-copy, Lies-in, Comes-to, Pasted-at, Deeper-there, Inside-is}
 
 -- ---- starts within 4,096 are the starts themselves
 
@@ -310,6 +310,36 @@ module _ (b : List ℕ) (t : Taken b) (at : Place) (p : ℕ) (w : In-the-line b 
             (omega (arith, not-last, ends, ends-at, long, w .to))
             (λ P h. repeated-copy-stands B k base s (g .0) q (leaves P repeats h))
 
+-- ---- the line that is guessed, or found
+
+module _ (b : List ℕ) (guess : Place) (p : ℕ) (w : In-the-copy b (guess .routine) (guess .base .0) p) where
+  pub guess-is-right : (n u v : ℕ) → n ≡ count b (guess .routine) → guess .line .0 < n
+      → u ≡ guess .base .0 + start (book-of b) (guess .routine) (guess .line .0) → u ≤ p
+      → v ≡ guess .base .0 + start (book-of b) (guess .routine) (guess .line .0 + 1) → p < v → Line-around b guess p guess
+  guess-is-right n u v size h from low to high =
+      record {
+        same-routine = refl;
+        same-base = refl;
+        in-the-line = record {
+          copy-within = w .copy-within;
+          a-line = omega (arith, size, h);
+          from = omega (arith, from, low);
+          to = omega (arith, to, high);
+        };
+      }
+
+  pub line-is-found : (at : Place) (line : RoutineLine) → In-the-line b (guess .routine) (guess .base .0) (line .0) p
+      → at ≡ record { routine = guess .routine; base = guess .base; line = line } → Line-around b guess p at
+  line-is-found at line s e = rw e (record { same-routine = refl; same-base = refl; in-the-line = s })
+
+lies-around : (P : Program) (b : List ℕ) (guess : Place) (p : ℕ) (at : Place) → Has-copy P b (guess .routine) (guess .base .0)
+    → Line-around b guess p at → Lies-in P b at p
+lies-around P b guess p at h s =
+    record {
+      in-the-line = rw (s .same-routine, s .same-base) (s .in-the-line);
+      has-copy = rw (s .same-routine, s .same-base) h;
+    }
+
 -- ---- from the top, and deeper
 
 -- The flat program is the asked routine's copy that begins at 0.
@@ -334,12 +364,9 @@ module _ (b : List ℕ) (asked : ℕ) (whole : Copy-within b asked 0) where
         → In-the-copy b (top .routine) (top .base .0) p
     in-the-top top e = rw e (record { copy-within = whole; from = omega arith; to = omega (arith, below) })
 
-    pub lies-in-the-top : (top at : Place) (line : RoutineLine) → top ≡ record { routine = asked; base = record { 0 = 0 }; line = record { 0 = 0 } }
-        → In-the-line b (top .routine) (top .base .0) (line .0) p → at ≡ record { routine = top .routine; base = top .base; line = line }
-        → Lies-in flat b at p
-    lies-in-the-top top at line e s f =
-        let start = rw e at s in
-        rw (f, e) (record { in-the-line = start; has-copy = top-stands b asked })
+    pub lies-in-the-top : (top at : Place) → top ≡ record { routine = asked; base = record { 0 = 0 }; line = record { 0 = 0 } }
+        → Line-around b top p at → Lies-in flat b at p
+    lies-in-the-top top at e = lies-around flat b top p at (rw e (top-stands b asked))
 
 -- The line that starts at p is the one in which p lies, if it ends behind p.
 pub lies-here : (P : Program) (b : List ℕ) (here : Place) (p n end : ℕ) → Comes-to P b here p → n ≡ count b (here .routine) → here .line .0 < n
@@ -355,26 +382,49 @@ lies-here P b here p n end c size h e s =
       has-copy = c .has-copy;
     }
 
-module _ (P : Program) (b : List ℕ) (at : Place) (p : ℕ) (s : Lies-in P b at p) (found : Inside)
+-- At every turn flat line p lies in a line of a copy that stands in the program. (Of the lines seen nothing is asked but that each routine has
+-- its own: a guess is tried before it is taken.)
+pub record Looking (P : Program) (b starts : List ℕ) (at : Place) (p : ℕ) (seen₀ seen : List ℕ) : Type 0 where
+  pub table : Table b starts
+  pub lies-in : Lies-in P b at p
+  pub a-line-each : length seen ≡ most-routines
+  pub as-many : length seen ≡ length seen₀
+
+pub looks-first : (P : Program) (b starts : List ℕ) (at : Place) (p : ℕ) (seen : List ℕ) → Table b starts → Lies-in P b at p
+    → length seen ≡ most-routines → Looking P b starts at p seen seen
+looks-first P b starts at p seen T s long = record { table = T; lies-in = s; a-line-each = long; as-many = refl }
+
+module _ (P : Program) (b starts : List ℕ) (at : Place) (p : ℕ) (seen₀ seen : List ℕ) (s : Looking P b starts at p seen₀ seen) (found : Inside)
     (is : Inside-is b (at .routine) (at .base .0) p found) where
   pub pasted-there : {x : Pasted} → found ≡ inside.Stands x → Pasted-at P b p x
   unfolding Inside-is
   pasted-there e =
       let f = rw e at is in
-      f .pasted P (s .has-copy)
+      f .pasted P (s .lies-in .has-copy)
 
   module _ {inner : Place} (e : found ≡ inside.Deeper inner) where
     there : Deeper-there b (at .routine) (at .base .0) p inner
     unfolding Inside-is
     there = rw e at is
 
-    pub in-the-inner : In-the-copy b (inner .routine) (inner .base .0) p
-    in-the-inner = there .in-the-copy
+    pub has-a-line : inner .routine < length seen
+    has-a-line =
+        omega (arith, there .lower, s .a-line-each, s .lies-in .in-the-line .copy-within .a-routine, taken-book b (s .table .taken) .header .routines-to-32)
 
-    module _ (line : RoutineLine) (around : In-the-line b (inner .routine) (inner .base .0) (line .0) p) (next : Place)
-        (made : next ≡ record { routine = inner .routine; base = inner .base; line = line }) where
-      pub lies-deeper : Lies-in P b next p
-      lies-deeper = rw made (record { in-the-line = around; has-copy = there .has-copy P (s .has-copy) })
+    -- the inner copy, with a line that is guessed
+    module _ (guess : Place) (line : RoutineLine) (made : guess ≡ record { routine = inner .routine; base = inner .base; line = line }) where
+      pub in-the-inner : In-the-copy b (guess .routine) (guess .base .0) p
+      in-the-inner = rw made (there .in-the-copy)
 
-      pub falls : next .routine < at .routine
-      falls = rw made (there .lower)
+      module _ (next : Place) (around : Line-around b guess p next) where
+        pub looks-deeper : (k v : ℕ) → Looking P b starts next p seen₀ (set seen k v)
+        looks-deeper k v =
+            record {
+              table = s .table;
+              lies-in = lies-around P b guess p next (rw made (there .has-copy P (s .lies-in .has-copy))) around;
+              a-line-each = length-set seen k v ∙ s .a-line-each;
+              as-many = length-set seen k v ∙ s .as-many;
+            }
+
+        pub falls : next .routine < at .routine
+        falls = rw (around .same-routine, made) (there .lower)

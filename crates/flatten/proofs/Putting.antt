@@ -9,7 +9,7 @@ use mathlib.Core.List.{List}
 use lib.ListN.{length}
 use Rattle.scope.specs.Ram as ram
 use Rattle.scope.specs.Ram.{Has, has, Target-within, Targets-within}
-use Rattle.scope.specs.Book.{line-bytes, fields-of, book-of}
+use Rattle.scope.specs.Book.{most-routines, line-bytes, fields-of, book-of}
 use Rattle.scope.specs.Flattening.{most-flat-lines, flat-length, flat-program, bytes-of-fields, as-line, flat-header, flat-book, flat-book-bytes, at-the-front-of}
 use Rattle.scope.proofs.FlatLines.{length-flat-program}
 use Rattle.scope.proofs.FlatBook.{flat-program-fits}
@@ -25,17 +25,18 @@ use Rattle.flatten.specs.Copies.{Copy-within, Comes-to, Pasted-at}
 use Rattle.flatten.proofs.Pasting.{first-place}
 
 -- The first p flat lines are written, and the next one is where `here` starts.
-pub record Written-to (b : List ℕ) (asked n : ℕ) (out₀ : List ℕ) (here : Place) (p : ℕ) (out : List ℕ) : Type 0 where
+pub record Written-to (b : List ℕ) (asked n : ℕ) (out₀ seen : List ℕ) (here : Place) (p : ℕ) (out : List ℕ) : Type 0 where
   pub upto : p ≤ n
   pub comes-to : Comes-to (flat-program (book-of b) asked) b here p
+  pub a-line-each : length seen ≡ most-routines
   pub room : flat-book-bytes n ≤ length out₀
   pub long : length out ≡ length out₀
   pub so-far : out ≡ with-lines out₀ p (flat-program (book-of b) asked)
 
-pub none-written : (b : List ℕ) (asked n : ℕ) (out : List ℕ) (here : Place) → Copy-within b asked 0 → flat-book-bytes n ≤ length out
-    → here ≡ record { routine = asked; base = record { 0 = 0 }; line = record { 0 = 0 } } → Written-to b asked n out here 0 out
-none-written b asked n out here whole room e =
-    record { upto = omega arith; comes-to = first-place b asked whole here e; room = room; long = refl; so-far = no-line-written out _ }
+pub none-written : (b : List ℕ) (asked n : ℕ) (out seen : List ℕ) (here : Place) → Copy-within b asked 0 → flat-book-bytes n ≤ length out → length seen ≡ most-routines
+    → here ≡ record { routine = asked; base = record { 0 = 0 }; line = record { 0 = 0 } } → Written-to b asked n out seen here 0 out
+none-written b asked n out seen here whole room each e =
+    record { upto = omega arith; comes-to = first-place b asked whole here e; a-line-each = each; room = room; long = refl; so-far = no-line-written out _ }
 
 wider : (m n : ℕ) (x : ram.Instruction) → m ≤ n → Target-within m x → Target-within n x
 unfolding Target-within
@@ -55,20 +56,21 @@ module _ (b : List ℕ) (c : Counts) (t : Taken-with b c) (asked : ℕ) (whole :
       let fits = flat-program-fits b (t .taken) asked few in
       wider _ most-flat-lines _ (omega (arith, few, length-flat-program (book-of b) asked)) (fits .ours .targets-within p _ (pasted .stands))
 
-module _ (b : List ℕ) (asked n : ℕ) (out₀ : List ℕ) (here : Place) (p : ℕ) (out : List ℕ)
-    (w : Written-to b asked n out₀ here p out) (low : p < n) where
+module _ (b : List ℕ) (asked n : ℕ) (out₀ seen : List ℕ) (here : Place) (p : ℕ) (out : List ℕ)
+    (w : Written-to b asked n out₀ seen here p out) (low : p < n) where
   pub line-has-room : flat-book-bytes p + line-bytes ≤ length out
   unfolding flat-book-bytes
   line-has-room = omega (arith, w .room, w .long, low)
 
-  pub one-more-written : (x : Pasted) (out′ : List ℕ) → Pasted-at (flat-program (book-of b) asked) b p x → length out′ ≡ length out
+  pub one-more-written : (x : Pasted) (out′ seen′ : List ℕ) → Pasted-at (flat-program (book-of b) asked) b p x → length seen′ ≡ most-routines → length out′ ≡ length out
       → out′ ≡ with-bytes out (flat-book-bytes p) (bytes-of-fields (fields-of (as-line (instruction-told (x .instruction)))))
-      → Written-to b asked n out₀ (x .behind) (p + 1) out′
+      → Written-to b asked n out₀ seen′ (x .behind) (p + 1) out′
   unfolding flat-book-bytes
-  one-more-written x out′ pasted same put =
+  one-more-written x out′ seen′ pasted each same put =
       record {
         upto = omega (arith, low);
         comes-to = pasted .behind-it;
+        a-line-each = each;
         room = w .room;
         long = same ∙ w .long;
         so-far = behind (pasted .stands);
@@ -77,9 +79,9 @@ module _ (b : List ℕ) (asked n : ℕ) (out₀ : List ℕ) (here : Place) (p : 
       behind : Has (flat-program (book-of b) asked) p (instruction-told (x .instruction)) → out′ ≡ with-lines out₀ (p + 1) (flat-program (book-of b) asked)
       behind (has stands) = line-written p _ stands out₀ out out′ (w .so-far) (omega (arith, w .room, low)) put
 
-pub all-lines-written : (b : List ℕ) (asked n : ℕ) (out₀ : List ℕ) (here : Place) (p : ℕ) (out : List ℕ) → Written-to b asked n out₀ here p out → n ≤ p
+pub all-lines-written : (b : List ℕ) (asked n : ℕ) (out₀ seen : List ℕ) (here : Place) (p : ℕ) (out : List ℕ) → Written-to b asked n out₀ seen here p out → n ≤ p
     → out ≡ with-lines out₀ n (flat-program (book-of b) asked)
-all-lines-written b asked n out₀ here p out w h =
+all-lines-written b asked n out₀ seen here p out w h =
     let end : p ≡ n = omega (arith, h, w .upto) in
     rw end at (w .so-far)
 

@@ -4,13 +4,14 @@
 ghost use mathlib.Core.Path.{_≡_};
 ghost use Prim.Native.Nat.{_+_, _<_, _≤_};
 ghost use lib.ListN.{length};
-ghost use Rattle.scope.specs.Book.{most-lines, count, REPEAT, line-of, fields-in, book-of};
+ghost use Rattle.scope.specs.Book.{most-routines, most-lines, count, REPEAT, line-of, fields-in, book-of};
 ghost use Rattle.scope.specs.Flattening.{flat-length, start, flat-program, flat-book, flat-book-bytes, at-the-front-of};
 ghost use Rattle.book.specs.Asked.{Taken-with};
 ghost use Rattle.book.specs.Written.{with-lines};
 ghost use Rattle.flatten.specs.declared.copying.Inside.the-variants.{Stands};
 ghost use Rattle.flatten.specs.Rows.{Table};
-ghost use Rattle.flatten.specs.Copies.{Copy-within, In-the-copy, In-the-line, Lies-in, Comes-to, Pasted-at, Inside-is};
+ghost use Rattle.flatten.specs.Copies.{Copy-within, In-the-copy, In-the-line, Line-around, Lies-in, Comes-to, Pasted-at, Inside-is};
+use super::lengths::ROW;
 use super::lengths::start_of;
 use book::flat::FlatLine;
 use book::flat::Instruction;
@@ -55,7 +56,7 @@ fn moved(b: &[u8], starts: &[u32], at: Place, target: RoutineLine) -> FlatLine
 }
 
 // The line of a copy in which flat line p lies, by halving. A line of length 0 has no flat line, so it is never found.
-fn line_around(b: &[u8], starts: &[u32], copy: Place, p: FlatLine) -> RoutineLine
+fn halve(b: &[u8], starts: &[u32], copy: Place, p: FlatLine) -> RoutineLine
     requires { ⌜ Table (now b) (now starts) ⌝ }
     requires { ⌜ In-the-copy (now b) (copy .routine) (copy .base .0) (p .0) ⌝ }
     ensures { λ r. ⌜ In-the-line (now (b .entry)) (copy .routine) (copy .base .0) (r .0) (p .0) ⌝ }
@@ -157,6 +158,25 @@ fn look_inside(b: &[u8], counts: Counts, starts: &[u32], at: Place, p: FlatLine)
     }
 }
 
+// The line of a copy in which flat line p lies: the one that is guessed, if that is right.
+fn line_around(b: &[u8], starts: &[u32], guess: Place, p: FlatLine) -> Place
+    requires { ⌜ Table (now b) (now starts) ⌝ }
+    requires { ⌜ In-the-copy (now b) (guess .routine) (guess .base .0) (p .0) ⌝ }
+    ensures { λ r. ⌜ Line-around (now (b .entry)) guess (p .0) r ⌝ }
+{
+    let line = guess.line;
+    if line.0 < count(b, guess.routine) {
+        let start = moved(b, starts, guess, line);
+        let end = moved(b, starts, guess, RoutineLine(line.0 + 1));
+        if start.0 <= p.0 {
+            if p.0 < end.0 {
+                return guess;
+            }
+        }
+    }
+    at_line(guess, halve(b, starts, guess, p))
+}
+
 // The line in which flat line p lies: the one that starts there or, where that is empty or the copy is at its end, one found from the top.
 fn around(b: &[u8], starts: &[u32], routine: u16, here: Place, p: FlatLine) -> Place
     requires { ⌜ Table (now b) (now starts) ⌝ }
@@ -172,11 +192,11 @@ fn around(b: &[u8], starts: &[u32], routine: u16, here: Place, p: FlatLine) -> P
             return here;
         }
     }
-    let top = copy_of(routine, FlatLine(0));
-    at_line(top, line_around(b, starts, top, p))
+    line_around(b, starts, copy_of(routine, FlatLine(0)), p)
 }
 
-// What stands at flat line p. The routine falls at each turn.
+// What stands at flat line p. The routine falls at each turn. Of each routine it is seen in which line it was left last: in the next copy the
+// flat line often lies in the same one.
 fn paste_at(
     b: &[u8],
     counts: Counts,
@@ -184,12 +204,14 @@ fn paste_at(
     routine: u16,
     here: Place,
     p: FlatLine,
+    seen: &mut [u16],
 ) -> Pasted
     requires { ⌜ Taken-with (now b) counts ⌝ }
     requires { ⌜ Table (now b) (now starts) ⌝ }
     requires { ⌜ Copy-within (now b) routine 0 ⌝ }
     requires { ⌜ Comes-to (flat-program (book-of (now b)) routine) (now b) here (p .0) ⌝ }
     requires { ⌜ p .0 < flat-length (book-of (now b)) routine ⌝ }
+    requires { ⌜ length (now seen) ≡ most-routines ⌝ }
     ensures { λ r. ⌜ Pasted-at (flat-program (book-of (now (b .entry))) routine) (now (b .entry)) (p .0) r ⌝ }
 {
     let mut at = around(b, starts, routine, here, p);
@@ -200,7 +222,11 @@ fn paste_at(
                 return x;
             }
             Inside::Deeper(copy) => {
-                at = at_line(copy, line_around(b, starts, copy, p));
+                let k = copy.routine as usize;
+                let guess = RoutineLine(seen[k]);
+                at = line_around(b, starts, at_line(copy, guess), p);
+                let line = at.line;
+                seen[k] = line.0;
             }
         }
     }
@@ -215,10 +241,11 @@ fn put_lines(b: &[u8], counts: Counts, starts: &[u32], routine: u16, n: usize, o
     requires { ⌜ flat-book-bytes n ≤ length (now out) ⌝ }
     ensures { λ _. ⌜ now (out .exit) ≡ with-lines (now (out .entry)) n (flat-program (book-of (now (b .entry))) routine) ⌝ }
 {
+    let mut seen = [0u16; ROW];
     let mut here = copy_of(routine, FlatLine(0));
     let mut p: usize = 0;
     while p < n {
-        let found = paste_at(b, counts, starts, routine, here, FlatLine(p));
+        let found = paste_at(b, counts, starts, routine, here, FlatLine(p), &mut seen);
         let x = found.instruction;
         put_line(out, FlatLine(p), x);
         here = found.behind;

@@ -9,8 +9,8 @@ use Rattle.flatten.proofs.Pasting.{in-the-top, lies-here, lies-in-the-t
 count-requires : tie.Need-count-requires
 count-requires c κs = search entry-there
 
-add-t11 : tie.Need-add-t11
-add-t11 c = search needs
+add-t10 : tie.Need-add-t10
+add-t10 c = search needs
 
 moved-requires : tie.Need-moved-requires
 moved-requires c κs = search needs
@@ -24,9 +24,6 @@ copy-of-requires c κs = search needs
 line-around-requires : tie.Need-line-around-requires
 line-around-requires c κs = search in-the-top
 
-at-line-requires : tie.Need-at-line-requires
-at-line-requires c κs = search needs
-
 returns-2 : tie.Need-returns-2
 returns-2 c = search lies-in-the-top
 
@@ -35,10 +32,9 @@ around-spec =
     tie.close
     (tie.spec
     count-requires
-    add-t11
+    add-t10
     moved-requires
     returns
     copy-of-requires
     line-around-requires
-    at-line-requires
     returns-2)

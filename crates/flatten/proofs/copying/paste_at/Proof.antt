@@ -1,24 +1,23 @@
 -- `copying::paste_at` is what stands at a flat line, and the place behind it.
--- At every turn the flat line lies in a line of a copy that stands in the program (`Lies-in`); the routine falls. Assumes nothing.
+-- At every turn the flat line lies in a line of a copy that stands in the program (`Looking`); the routine falls. Assumes nothing.
 use borrow.Author.Needs.{needs}
 use Rattle.flatten.proofs.copying.paste_at.Statement.{statement}
 use Rattle.flatten.proofs.copying.paste_at.Tie as tie
 use Rattle.scope.specs.Book.{book-of}
 use Rattle.scope.specs.Flattening.{flat-program}
-use Rattle.flatten.specs.Copies.{Lies-in}
-use Rattle.flatten.proofs.Pasting.{pasted-there, in-the-inner, lies-deeper, falls}
+use Rattle.flatten.proofs.Pasting.{Looking, looks-first, pasted-there, has-a-line, in-the-inner, looks-deeper, falls}
 
 abbrev Inv-loop : tie.InvT-loop
-Inv-loop b counts starts routine p at₀ at = Lies-in (flat-program (book-of b) routine) b at (p .0)
+Inv-loop b counts starts routine p seen₀ at₀ seen at = Looking (flat-program (book-of b) routine) b starts at (p .0) seen₀ seen
 
 abbrev μ-loop : tie.MeasureT-loop
-μ-loop b counts starts routine p at₀ at = at .routine
+μ-loop b counts starts routine p seen₀ at₀ seen at = at .routine
 
 around-requires : tie.Need-around-requires Inv-loop μ-loop
 around-requires c κs = search needs
 
 loop-holds : tie.Need-loop-holds Inv-loop μ-loop
-loop-holds c = search needs
+loop-holds c = search looks-first
 
 look-inside-requires : tie.Need-look-inside-requires Inv-loop μ-loop
 look-inside-requires c κs = search needs
@@ -26,23 +25,41 @@ look-inside-requires c κs = search needs
 enum-known-found : tie.Need-enum-known-found Inv-loop μ-loop
 enum-known-found c = search needs
 
+same-length : tie.Need-same-length Inv-loop μ-loop
+same-length c = search needs
+
 returns : tie.Need-returns Inv-loop μ-loop
 returns c = search pasted-there
 
 enum-known-found-2 : tie.Need-enum-known-found-2 Inv-loop μ-loop
 enum-known-found-2 c = search needs
 
-line-around-requires : tie.Need-line-around-requires Inv-loop μ-loop
-line-around-requires c κs = search in-the-inner
+cast-k : tie.Need-cast-k Inv-loop μ-loop
+cast-k c = search needs
+
+mul-t15 : tie.Need-mul-t15 Inv-loop μ-loop
+mul-t15 c = search needs
+
+slice-read-t17 : tie.Need-slice-read-t17 Inv-loop μ-loop
+slice-read-t17 c = search has-a-line
 
 at-line-requires : tie.Need-at-line-requires Inv-loop μ-loop
 at-line-requires c κs = search needs
+
+line-around-requires : tie.Need-line-around-requires Inv-loop μ-loop
+line-around-requires c κs = (search needs, search in-the-inner)
+
+mul-seen : tie.Need-mul-seen Inv-loop μ-loop
+mul-seen c = search needs
+
+slice-write-seen : tie.Need-slice-write-seen Inv-loop μ-loop
+slice-write-seen c = search has-a-line
 
 loop-less : tie.Need-loop-less Inv-loop μ-loop
 loop-less c = search falls
 
 loop-again : tie.Need-loop-again Inv-loop μ-loop
-loop-again c = search lies-deeper
+loop-again c = search looks-deeper
 
 pub paste-at-spec : {M : Type 1} → statement M
 paste-at-spec =
@@ -54,9 +71,15 @@ paste-at-spec =
     loop-holds
     look-inside-requires
     enum-known-found
+    same-length
     returns
     enum-known-found-2
-    line-around-requires
+    cast-k
+    mul-t15
+    slice-read-t17
     at-line-requires
+    line-around-requires
+    mul-seen
+    slice-write-seen
     loop-less
     loop-again)

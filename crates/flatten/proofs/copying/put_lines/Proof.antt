@@ -7,10 +7,10 @@ use Prim.Native.Nat.{_-_}
 use Rattle.flatten.proofs.Putting.{Written-to, none-written, still-below, target-fits, line-has-room, one-more-written, all-lines-written}
 
 abbrev Inv-loop : tie.InvT-loop
-Inv-loop b counts starts routine n out₀ here₀ p₀ out here p = Written-to b routine n out₀ here p out
+Inv-loop b counts starts routine n out₀ seen₀ here₀ p₀ out seen here p = Written-to b routine n out₀ seen here p out
 
 abbrev μ-loop : tie.MeasureT-loop
-μ-loop b counts starts routine n out₀ here₀ p₀ out here p = n - p
+μ-loop b counts starts routine n out₀ seen₀ here₀ p₀ out seen here p = n - p
 
 copy-of-requires : tie.Need-copy-of-requires Inv-loop μ-loop
 copy-of-requires c κs = search needs
@@ -18,8 +18,11 @@ copy-of-requires c κs = search needs
 loop-holds : tie.Need-loop-holds Inv-loop μ-loop
 loop-holds c = search none-written
 
+slice-aggregate-paste-at : tie.Need-slice-aggregate-paste-at Inv-loop μ-loop
+slice-aggregate-paste-at c = search needs
+
 paste-at-requires : tie.Need-paste-at-requires Inv-loop μ-loop
-paste-at-requires c κs = (search needs, (search needs, (search needs, (search needs, search still-below))))
+paste-at-requires c κs = (search needs, (search needs, (search needs, (search needs, (search still-below, search needs)))))
 
 put-line-requires : tie.Need-put-line-requires Inv-loop μ-loop
 put-line-requires c κs = search (target-fits, line-has-room)
@@ -47,6 +50,7 @@ put-lines-spec =
     μ-loop
     copy-of-requires
     loop-holds
+    slice-aggregate-paste-at
     paste-at-requires
     put-line-requires
     add-p
