@@ -1,6 +1,7 @@
-// The copying: each flat line is worked out by itself, over one table of starts that serves all copies. All that decides is read-only,
-// and one loop writes. A flat line opens at most 32 copies and halves at most 12 times in each, so n flat lines take at most 12 * 32 * n
-// halvings whatever the book; a routine of length 0 is never opened, and where a line follows the last in its copy nothing is searched.
+// The copying: each flat line is worked out by itself, over one table of starts that serves all copies. What decides only reads, and one
+// loop writes the output. A flat line opens at most 32 copies and halves at most 12 times in each, so n flat lines take at most 12 * 32 * n
+// halvings whatever the book. A routine of length 0 is never opened. Where a line follows the last one in its copy nothing is searched, and
+// else a guess is tried before a line is searched.
 ghost use mathlib.Core.Path.{_≡_};
 ghost use Prim.Native.Nat.{_+_, _<_, _≤_};
 ghost use lib.ListN.{length};
@@ -195,7 +196,7 @@ fn around(b: &[u8], starts: &[u32], routine: u16, here: Place, p: FlatLine) -> P
     line_around(b, starts, copy_of(routine, FlatLine(0)), p)
 }
 
-// What stands at flat line p. The routine falls at each turn. Of each routine it is seen in which line it was left last: in the next copy the
+// What stands at flat line p. The routine falls at each turn. `seen` has for each routine the line that was found last: in its next copy the
 // flat line often lies in the same one.
 fn paste_at(
     b: &[u8],

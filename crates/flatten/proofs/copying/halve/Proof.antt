@@ -5,7 +5,7 @@ use Rattle.flatten.proofs.copying.halve.Statement.{statement}
 use Rattle.flatten.proofs.copying.halve.Tie as tie
 use Prim.Native.Nat.{_-_}
 use Rattle.flatten.proofs.Rows.{entry-there}
-use Rattle.flatten.proofs.Pasting.{Between, whole-copy, middle-there, lower-half, upper-half, line-is-around}
+use Rattle.flatten.proofs.Finding.{Between, whole-copy, middle-there, lower-half, upper-half, line-is-around}
 
 abbrev Inv-loop : tie.InvT-loop
 Inv-loop b starts k x low₀ high₀ low high = Between b k x low high

@@ -4,7 +4,7 @@ use borrow.Author.Needs.{needs}
 use Rattle.flatten.proofs.copying.line_around.Statement.{statement}
 use Rattle.flatten.proofs.copying.line_around.Tie as tie
 use Rattle.flatten.proofs.Rows.{entry-there}
-use Rattle.flatten.proofs.Pasting.{guess-is-right, line-is-found}
+use Rattle.flatten.proofs.Finding.{guess-is-right, line-is-found}
 
 count-requires : tie.Need-count-requires
 count-requires c κs = search entry-there

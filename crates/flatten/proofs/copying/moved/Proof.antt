@@ -3,7 +3,7 @@
 use borrow.Author.Needs.{needs}
 use Rattle.flatten.proofs.copying.moved.Statement.{statement}
 use Rattle.flatten.proofs.copying.moved.Tie as tie
-use Rattle.flatten.proofs.Pasting.{moved-is}
+use Rattle.flatten.proofs.Finding.{moved-is}
 
 start-of-requires : tie.Need-start-of-requires
 start-of-requires c κs = search needs
