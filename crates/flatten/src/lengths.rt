@@ -1,4 +1,4 @@
-// How long each routine is when it is flattened, and where each of its lines starts: from the lowest routine up.
+// How long each routine is when it is flattened, and where each of its lines starts: from the lowest routine up, one look at each line.
 ghost use mathlib.Core.Path.{_≡_};
 ghost use Prim.Native.Nat.{_+_, _<_, _≤_, min};
 ghost use Rattle.scope.specs.Book.{routines, count, line-of, fields-in, book-of};
