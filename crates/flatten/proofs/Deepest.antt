@@ -23,7 +23,8 @@ use Rattle.book.specs.declared.lines.Line.the-variants as line
 use Rattle.book.specs.Told.{line-told}
 use Rattle.book.specs.Asked.{Taken-with}
 use Rattle.book.proofs.Scanned.{below-R}
-use Rattle.flatten.specs.Rows.{depth-cap, Row}
+use Rattle.flatten.specs.Rows.{Row}
+use Rattle.flatten.specs.Depths.{depth-cap}
 use Rattle.flatten.proofs.Rows.{said-of-the-line, CALL-looked-up, REPEAT-looked-up, empty-row, one-more-routine}
 
 -- ---- a line

@@ -2,9 +2,10 @@
 -- Within 4,096 lines the starts in the table are the starts themselves; halving keeps the flat line between two of them. Assumes nothing.
 use Prim.Native.Nat.{ℕ, zero, suc, _+_, _-_, _/_, _<_, _≤_, min}
 use native.Mathlib.Omega.{arith}
-use mathlib.Core.Path.{_≡_, refl, sym}
+use mathlib.Core.Path.{_≡_, refl, sym, _∙_, ap}
 use mathlib.Core.List.{List}
-use Rattle.scope.specs.Book.{most-lines, count, routine, book-of}
+use lib.ListN.{length}
+use Rattle.scope.specs.Book.{most-routines, most-lines, count, routine, book-of}
 use Rattle.scope.specs.Flattening.{flat-length, start}
 use Rattle.scope.proofs.TakenBook.{taken-book, taken-callees-below, routine-ends}
 use Rattle.scope.proofs.FlatLines.{first-start, end-start, start-within}
@@ -111,3 +112,21 @@ module _ (b : List ℕ) (guess : Place) (p : ℕ) (w : In-the-copy b (guess .rou
   pub line-is-found : (at : Place) (line : RoutineLine) → In-the-line b (guess .routine) (guess .base .0) (line .0) p
       → at ≡ record { routine = guess .routine; base = guess .base; line = line } → Line-around b guess p at
   line-is-found at line s e = rw e (record { same-routine = refl; same-base = refl; in-the-line = s })
+
+-- ---- opening a copy
+
+module _ (b starts : List ℕ) (T : Table b starts) (copy : Place) (p : ℕ) (w : In-the-copy b (copy .routine) (copy .base .0) p) where
+  pub has-a-line : (seen : List ℕ) → length seen ≡ most-routines → copy .routine < length seen
+  has-a-line seen long = omega (arith, long, w .copy-within .a-routine, taken-book b (T .taken) .header .routines-to-32)
+
+  module _ (guess : Place) (line : RoutineLine) (made : guess ≡ record { routine = copy .routine; base = copy .base; line = line }) where
+    pub guess-in-the-copy : In-the-copy b (guess .routine) (guess .base .0) p
+    guess-in-the-copy = rw made w
+
+    pub found-in-the-copy : (at : Place) → Line-around b guess p at → Line-around b copy p at
+    found-in-the-copy at s =
+        record {
+          same-routine = s .same-routine ∙ ap (λ (y : Place). y .routine) made;
+          same-base = s .same-base ∙ ap (λ (y : Place). y .base) made;
+          in-the-line = rw made at (s .in-the-line);
+        }

@@ -1,20 +1,21 @@
 -- What a caller has in its output where flattening answers n: the flat book in front, behind it what was there, and at flat line i the
--- instruction that the flat program has there; in particular every jump of a copied line is moved by where its copy begins.
-use Prim.Native.Nat.{ℕ, _+_}
+-- instruction that the flat program has there, every jump moved. The promise gives the bytes, and `scope` what they say. Assumes nothing.
+use Prim.Native.Nat.{ℕ, _+_, _<_}
+use native.Mathlib.Omega.{arith}
 use mathlib.Core.Path.{_≡_, sym, _∙_, ap}
 use mathlib.Core.List.{List, _∷_}
-use lib.ListN.{length, take, drop}
-use lib.Seq.{take-at, drop-append-seam}
-use Rattle.scope.specs.Ram.{Program, Instruction, Has, has}
+use lib.ListN.{length, take, drop, getD}
+use lib.Seq.{take-at, drop-append-seam, drop-cons}
+use Rattle.scope.specs.Ram.{Program, Instruction, INC, Has, has}
 use Rattle.scope.specs.Refusals.{pass, call-of}
-use Rattle.scope.specs.Book.{Line, DEC, GO-TO, fields-of, fields-at, routine, book-of}
+use Rattle.scope.specs.Book.{Line, DEC, GO-TO, REPEAT, fields-of, fields-at, routine, book-of}
 use Rattle.scope.specs.Flattening.{flat-length, start, copy-line, copy, flat-program, as-line, flat-book, flat-book-bytes, at-the-front-of, flatten-verdict, flatten-call}
 use Rattle.scope.specs.FlatBook.{Says}
 use Rattle.scope.specs.GivenByCalls.{Flattens}
 use Rattle.scope.proofs.Verdicts.{accepted-only-where-passed, call-where-passed, then-passes}
 use Rattle.scope.proofs.TakenBook.{taken-callees-below}
 use Rattle.scope.proofs.GivenByCalls.{flattens-exactly-when}
-use Rattle.scope.proofs.FlatLines.{length-flat-program, Stands, line-stands}
+use Rattle.scope.proofs.FlatLines.{length-flat-program, Stands, line-stands, repeat-looks, repeat-goes-back}
 use Rattle.scope.proofs.WrittenBook.{length-flat-book, read-at}
 use Rattle.scope.proofs.FlatBook.{flat-program-fits, flat-book-is-taken}
 use Rattle.flatten.specs.declared.Flattened.the-variants.{Flat}
@@ -63,7 +64,12 @@ module _ (b : List ℕ) (k n : ℕ) (out out′ : List ℕ) (told : record { ans
   flat-line-at i x (has e) =
       rw flat-book-in-front (read-at flat (flat-program-fits b (routine-flattens .taken) k (routine-flattens .not-too-long)) i e)
 
-  -- A jump that line i of routine c makes, in a copy of the routine that begins at base: it leads to where its line now stands.
+  -- Below n one does.
+  pub flat-line-there : (i : ℕ) → i < n → (x : Instruction) × Has flat i x
+  flat-line-there i h = (getD flat i (INC 0), has (drop-cons flat i (INC 0) (omega (arith, h, n-is-its-length))))
+
+  -- A jump that line i of routine c makes, in a copy of the routine that begins at base: it leads to where its line now stands. (The asked
+  -- routine has a copy that begins at 0: `whole-copy-stands`.)
   module _ (c base i p t : ℕ) {rest : List Line} (stands : Stands flat base (copy (book-of b) c base)) (there : p ≡ base + start (book-of b) c i) where
     line-left : {l : Line} → drop i (routine (book-of b) c) ≡ l ∷ rest → Stands flat p (copy-line (book-of b) (copy (book-of b)) c base p l)
     line-left e = line-stands (book-of b) (taken-callees-below b (routine-flattens .taken)) c i stands e there
@@ -77,3 +83,14 @@ module _ (b : List ℕ) (k n : ℕ) (out out′ : List ℕ) (told : record { ans
         → fields-at (take (flat-book-bytes n) out′) p ≡ fields-of (GO-TO (base + start (book-of b) c t))
     unfolding copy-line as-line
     GO-TO-is-moved e = flat-line-at p _ (has (line-left e .there))
+
+    -- A REPEAT of register j that starts at p, over length s, becomes DEC j to p+s+2, .., then GO TO p at p+s+1.
+    module _ (j s : ℕ) (e : drop i (routine (book-of b) c) ≡ REPEAT j t ∷ rest) (over : s ≡ flat-length (book-of b) t) where
+      pub REPEAT-starts-with-DEC : fields-at (take (flat-book-bytes n) out′) p ≡ fields-of (DEC j (p + s + 2))
+      unfolding as-line
+      REPEAT-starts-with-DEC = rw over (flat-line-at p _ (has (repeat-looks (book-of b) c base p j t (line-left e) .there)))
+
+      pub REPEAT-ends-with-GO-TO : (q : ℕ) → q ≡ p + s + 1 → fields-at (take (flat-book-bytes n) out′) q ≡ fields-of (GO-TO p)
+      unfolding as-line
+      REPEAT-ends-with-GO-TO q end =
+          flat-line-at q _ (has (repeat-goes-back (book-of b) c base p j t (line-left e) q (omega (arith, over, end)) .there))

@@ -66,8 +66,8 @@ module _ (b : List ℕ) (t : Taken b) (at : Place) (p : ℕ) (w : In-the-line b 
   ends-within : s + line-length (flat-length B) l ≤ most-flat-lines
   ends-within = omega (arith, ends-at, w .copy-within .ends-within, start-within B ok k (i + 1))
 
-  pub line-fits : Fits w16 (i + 1)
-  line-fits =
+  pub next-line-number-fits : Fits w16 (i + 1)
+  next-line-number-fits =
       let T = taken-book b t in
       record { fits = omega (arith, w .a-line, T .ends-within k (w .copy-within .a-routine), T .header .lines-to-4096) }
 
@@ -244,9 +244,9 @@ lies-around P b guess p at h s =
     }
 
 -- The flat program is the asked routine's copy that begins at 0.
-top-stands : (b : List ℕ) (k : ℕ) → Has-copy (flat-program (book-of b) k) b k 0
+pub whole-copy-stands : (b : List ℕ) (k : ℕ) → Has-copy (flat-program (book-of b) k) b k 0
 unfolding flat-program
-top-stands b k = record { behind = []; there = sym (append-nil (copy (book-of b) k 0)) }
+whole-copy-stands b k = record { behind = []; there = sym (append-nil (copy (book-of b) k 0)) }
 
 module _ (b : List ℕ) (asked : ℕ) (whole : Copy-within b asked 0) where
   abbrev flat : Program
@@ -257,7 +257,7 @@ module _ (b : List ℕ) (asked : ℕ) (whole : Copy-within b asked 0) where
       rw e
       (record {
         starts-at = record { copy-within = whole; a-line-or-end = omega arith; starts-there = omega (arith, first-start (book-of b) asked) };
-        has-copy = top-stands b asked;
+        has-copy = whole-copy-stands b asked;
       })
 
   module _ (p : ℕ) (below : p < flat-length (book-of b) asked) where
@@ -267,7 +267,7 @@ module _ (b : List ℕ) (asked : ℕ) (whole : Copy-within b asked 0) where
 
     pub lies-in-the-top : (top at : Place) → top ≡ record { routine = asked; base = record { 0 = 0 }; line = record { 0 = 0 } }
         → Line-around b top p at → Lies-in flat b at p
-    lies-in-the-top top at e = lies-around flat b top p at (rw e (top-stands b asked))
+    lies-in-the-top top at e = lies-around flat b top p at (rw e (whole-copy-stands b asked))
 
 -- The line that starts at p is the one in which p lies, if it ends behind p.
 pub lies-here : (P : Program) (b : List ℕ) (here : Place) (p n end : ℕ) → Comes-to P b here p → n ≡ count b (here .routine) → here .line .0 < n
@@ -291,9 +291,9 @@ pub record Looking (P : Program) (b starts : List ℕ) (at : Place) (p : ℕ) (s
   pub a-line-each : length seen ≡ most-routines
   pub as-many : length seen ≡ length seen₀
 
-pub looks-first : (P : Program) (b starts : List ℕ) (at : Place) (p : ℕ) (seen : List ℕ) → Table b starts → Lies-in P b at p
-    → length seen ≡ most-routines → Looking P b starts at p seen seen
-looks-first P b starts at p seen T s long = record { table = T; lies-in = s; a-line-each = long; as-many = refl }
+pub looks-first : (P : Program) (b starts : List ℕ) (at : Place) (p : ℕ) (lent seen : List ℕ) → Table b starts → Lies-in P b at p
+    → length lent ≡ most-routines → length seen ≡ length lent → Looking P b starts at p seen seen
+looks-first P b starts at p lent seen T s long same = record { table = T; lies-in = s; a-line-each = same ∙ long; as-many = refl }
 
 module _ (P : Program) (b starts : List ℕ) (at : Place) (p : ℕ) (seen₀ seen : List ℕ) (s : Looking P b starts at p seen₀ seen) (found : Inside)
     (is : Inside-is b (at .routine) (at .base .0) p found) where
@@ -308,24 +308,18 @@ module _ (P : Program) (b starts : List ℕ) (at : Place) (p : ℕ) (seen₀ see
     unfolding Inside-is
     there = rw e at is
 
-    pub has-a-line : inner .routine < length seen
-    has-a-line =
-        omega (arith, there .lower, s .a-line-each, s .lies-in .in-the-line .copy-within .a-routine, taken-book b (s .table .taken) .header .routines-to-32)
+    pub in-the-inner : In-the-copy b (inner .routine) (inner .base .0) p
+    in-the-inner = there .in-the-copy
 
-    -- the inner copy, with a line that is guessed
-    module _ (guess : Place) (line : RoutineLine) (made : guess ≡ record { routine = inner .routine; base = inner .base; line = line }) where
-      pub in-the-inner : In-the-copy b (guess .routine) (guess .base .0) p
-      in-the-inner = rw made (there .in-the-copy)
+    module _ (next : Place) (around : Line-around b inner p next) where
+      pub looks-deeper : (seen′ : List ℕ) → length seen′ ≡ length seen → Looking P b starts next p seen₀ seen′
+      looks-deeper seen′ same =
+          record {
+            table = s .table;
+            lies-in = lies-around P b inner p next (there .has-copy P (s .lies-in .has-copy)) around;
+            a-line-each = same ∙ s .a-line-each;
+            as-many = same ∙ s .as-many;
+          }
 
-      module _ (next : Place) (around : Line-around b guess p next) where
-        pub looks-deeper : (k v : ℕ) → Looking P b starts next p seen₀ (set seen k v)
-        looks-deeper k v =
-            record {
-              table = s .table;
-              lies-in = lies-around P b guess p next (rw made (there .has-copy P (s .lies-in .has-copy))) around;
-              a-line-each = length-set seen k v ∙ s .a-line-each;
-              as-many = length-set seen k v ∙ s .as-many;
-            }
-
-        pub falls : next .routine < at .routine
-        falls = rw (around .same-routine, made) (there .lower)
+      pub falls : next .routine < at .routine
+      falls = rw (around .same-routine) (there .lower)

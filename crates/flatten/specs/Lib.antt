@@ -2,4 +2,5 @@
 pub mod Told
 -- of its private functions
 pub mod Rows
+pub mod Depths
 pub mod Copies

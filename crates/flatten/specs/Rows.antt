@@ -1,18 +1,15 @@
--- The rows and the table that are filled from the lowest routine up: lengths and depths, each stopped at a cap, and where the lines start.
+-- A row of numbers stopped at a cap, and the table of starts, both filled from the lowest routine up.
 -- Only contracts inside this crate cite them. Assumes nothing.
 use Prim.Native.Nat.{ℕ, _+_, _<_, _≤_, min}
 use mathlib.Core.Path.{_≡_}
 use mathlib.Core.List.{List}
 use lib.ListN.{length, getD}
 use Rattle.scope.specs.Book.{most-routines, most-lines, routines, first-line, first-line-due, count, Taken, book-of}
-use Rattle.scope.specs.Flattening.{flat-length, start, most-flat-lines, most-open}
+use Rattle.scope.specs.Flattening.{flat-length, start, most-flat-lines}
 
--- Lengths stop above 4,096, depths above 32: the tests of 13 and 11 tell no more.
+-- Lengths stop above 4,096: the test of 13 tells no more.
 abbrev pub length-cap : ℕ
 length-cap = most-flat-lines + 1
-
-abbrev pub depth-cap : ℕ
-depth-cap = most-open + 1
 
 -- What is said of the routines below k, each number stopped at the cap.
 pub record Row (said : ℕ → ℕ) (cap k : ℕ) (row : List ℕ) : Type 0 where

@@ -141,7 +141,7 @@ fn in_repeat(b: &[u8], starts: &[u32], at: Place, r: Reg, c: u16, p: FlatLine) -
     Inside::Deeper(body)
 }
 
-// A CALL leaves only the copy.
+// What a line of a copy leaves at flat line p. A CALL leaves only the copy.
 fn look_inside(b: &[u8], counts: Counts, starts: &[u32], at: Place, p: FlatLine) -> Inside
     requires { ⌜ Taken-with (now b) counts ⌝ }
     requires { ⌜ Table (now b) (now starts) ⌝ }
@@ -159,7 +159,7 @@ fn look_inside(b: &[u8], counts: Counts, starts: &[u32], at: Place, p: FlatLine)
     }
 }
 
-// The line of a copy in which flat line p lies: the one that is guessed, if that is right.
+// The line of a copy in which flat line p lies: the one that is guessed, if that is right. It is tried as if nothing were known of it.
 fn line_around(b: &[u8], starts: &[u32], guess: Place, p: FlatLine) -> Place
     requires { ⌜ Table (now b) (now starts) ⌝ }
     requires { ⌜ In-the-copy (now b) (guess .routine) (guess .base .0) (p .0) ⌝ }
@@ -178,12 +178,35 @@ fn line_around(b: &[u8], starts: &[u32], guess: Place, p: FlatLine) -> Place
     at_line(guess, halve(b, starts, guess, p))
 }
 
+// The line of a copy in which flat line p lies. `seen` has for each routine the line in which it was found last: there it often is again.
+fn open(b: &[u8], starts: &[u32], copy: Place, p: FlatLine, seen: &mut [u16]) -> Place
+    requires { ⌜ Table (now b) (now starts) ⌝ }
+    requires { ⌜ In-the-copy (now b) (copy .routine) (copy .base .0) (p .0) ⌝ }
+    requires { ⌜ length (now seen) ≡ most-routines ⌝ }
+    ensures { λ r. ⌜ Line-around (now (b .entry)) copy (p .0) r ⌝ }
+{
+    let k = copy.routine as usize;
+    let guess = RoutineLine(seen[k]);
+    let at = line_around(b, starts, at_line(copy, guess), p);
+    let line = at.line;
+    seen[k] = line.0;
+    at
+}
+
 // The line in which flat line p lies: the one that starts there or, where that is empty or the copy is at its end, one found from the top.
-fn around(b: &[u8], starts: &[u32], routine: u16, here: Place, p: FlatLine) -> Place
+fn around(
+    b: &[u8],
+    starts: &[u32],
+    routine: u16,
+    here: Place,
+    p: FlatLine,
+    seen: &mut [u16],
+) -> Place
     requires { ⌜ Table (now b) (now starts) ⌝ }
     requires { ⌜ Copy-within (now b) routine 0 ⌝ }
     requires { ⌜ Comes-to (flat-program (book-of (now b)) routine) (now b) here (p .0) ⌝ }
     requires { ⌜ p .0 < flat-length (book-of (now b)) routine ⌝ }
+    requires { ⌜ length (now seen) ≡ most-routines ⌝ }
     ensures { λ r. ⌜ Lies-in (flat-program (book-of (now (b .entry))) routine) (now (b .entry)) r (p .0) ⌝ }
 {
     let line = here.line;
@@ -193,11 +216,10 @@ fn around(b: &[u8], starts: &[u32], routine: u16, here: Place, p: FlatLine) -> P
             return here;
         }
     }
-    line_around(b, starts, copy_of(routine, FlatLine(0)), p)
+    open(b, starts, copy_of(routine, FlatLine(0)), p, seen)
 }
 
-// What stands at flat line p. The routine falls at each turn. `seen` has for each routine the line that was found last: in its next copy the
-// flat line often lies in the same one.
+// What stands at flat line p. The routine falls at each turn.
 fn paste_at(
     b: &[u8],
     counts: Counts,
@@ -215,7 +237,7 @@ fn paste_at(
     requires { ⌜ length (now seen) ≡ most-routines ⌝ }
     ensures { λ r. ⌜ Pasted-at (flat-program (book-of (now (b .entry))) routine) (now (b .entry)) (p .0) r ⌝ }
 {
-    let mut at = around(b, starts, routine, here, p);
+    let mut at = around(b, starts, routine, here, p, seen);
     loop {
         let found = look_inside(b, counts, starts, at, p);
         match found {
@@ -223,11 +245,7 @@ fn paste_at(
                 return x;
             }
             Inside::Deeper(copy) => {
-                let k = copy.routine as usize;
-                let guess = RoutineLine(seen[k]);
-                at = line_around(b, starts, at_line(copy, guess), p);
-                let line = at.line;
-                seen[k] = line.0;
+                at = open(b, starts, copy, p, seen);
             }
         }
     }

@@ -1,11 +1,12 @@
-// 11 DEPTH: more than 32 routines open inside one another. All that is for this test stands here.
+// 11 DEPTH: more than 32 routines open inside one another. From the lowest routine up to the asked one, one look at each line.
 ghost use mathlib.Core.Path.{_≡_};
 ghost use Prim.Native.Nat.{_<_, min, max};
 ghost use Rattle.scope.specs.Words.{_above_};
 ghost use Rattle.scope.specs.Book.{count, line-of, fields-in, book-of, used};
 ghost use Rattle.scope.specs.Flattening.{most-open, depth};
 ghost use Rattle.book.specs.Asked.{Taken-with};
-ghost use Rattle.flatten.specs.Rows.{depth-cap, Row};
+ghost use Rattle.flatten.specs.Rows.{Row};
+ghost use Rattle.flatten.specs.Depths.{depth-cap};
 use super::lengths::ROW;
 use super::lengths::capped;
 use book::header::Counts;

@@ -46,7 +46,7 @@ fn flattens(b: &[u8], counts: Counts, routine: usize, lengths: &[u32]) -> Flatte
     Flattened::Flat(n)
 }
 
-// .. 14. 14 NO ROOM: output shorter than 16 + 4n bytes.
+// Measures a taken book, makes the tests of its routine, then 14 NO ROOM: output shorter than 16 + 4n bytes; and writes.
 fn flatten_taken(b: &[u8], counts: Counts, routine: usize, out: &mut [u8]) -> Flattened
     requires { ⌜ Taken-with (now b) counts ⌝ }
     ensures { λ r. ⌜ record { answer = flattened-told r; left = now (out .exit) } ≡ flatten-call (now (b .entry)) routine (now (out .entry)) ⌝ }

@@ -9,8 +9,8 @@ use Rattle.flatten.proofs.Pasting.{in-the-top, lies-here, lies-in-the-t
 count-requires : tie.Need-count-requires
 count-requires c κs = search entry-there
 
-add-t10 : tie.Need-add-t10
-add-t10 c = search needs
+add-t11 : tie.Need-add-t11
+add-t11 c = search needs
 
 moved-requires : tie.Need-moved-requires
 moved-requires c κs = search needs
@@ -21,8 +21,11 @@ returns c = search lies-here
 copy-of-requires : tie.Need-copy-of-requires
 copy-of-requires c κs = search needs
 
-line-around-requires : tie.Need-line-around-requires
-line-around-requires c κs = search in-the-top
+open-requires : tie.Need-open-requires
+open-requires c κs = search in-the-top
+
+same-length : tie.Need-same-length
+same-length c = search needs
 
 returns-2 : tie.Need-returns-2
 returns-2 c = search lies-in-the-top
@@ -32,9 +35,10 @@ around-spec =
     tie.close
     (tie.spec
     count-requires
-    add-t10
+    add-t11
     moved-requires
     returns
     copy-of-requires
-    line-around-requires
+    open-requires
+    same-length
     returns-2)

@@ -3,13 +3,13 @@
 use borrow.Author.Needs.{needs}
 use Rattle.flatten.proofs.copying.in_repeat.Statement.{statement}
 use Rattle.flatten.proofs.copying.in_repeat.Tie as tie
-use Rattle.flatten.proofs.Pasting.{line-fits, line-below-most, next-line-or-end, REPEAT-looks, REPEAT-goes-back, REPEAT-deeper}
+use Rattle.flatten.proofs.Pasting.{next-line-number-fits, line-below-most, next-line-or-end, REPEAT-looks, REPEAT-goes-back, REPEAT-deeper}
 
 moved-requires : tie.Need-moved-requires
 moved-requires c κs = search needs
 
 add-t12 : tie.Need-add-t12
-add-t12 c = search line-fits
+add-t12 c = search next-line-number-fits
 
 moved-requires-2 : tie.Need-moved-requires-2
 moved-requires-2 c κs = search next-line-or-end

@@ -5,7 +5,7 @@ use Rattle.flatten.proofs.copying.paste_at.Statement.{statement}
 use Rattle.flatten.proofs.copying.paste_at.Tie as tie
 use Rattle.scope.specs.Book.{book-of}
 use Rattle.scope.specs.Flattening.{flat-program}
-use Rattle.flatten.proofs.Pasting.{Looking, looks-first, pasted-there, has-a-line, in-the-inner, looks-deeper, falls}
+use Rattle.flatten.proofs.Pasting.{Looking, looks-first, pasted-there, in-the-inner, looks-deeper, falls}
 
 abbrev Inv-loop : tie.InvT-loop
 Inv-loop b counts starts routine p seen₀ at₀ seen at = Looking (flat-program (book-of b) routine) b starts at (p .0) seen₀ seen
@@ -34,26 +34,8 @@ returns c = search pasted-there
 enum-known-found-2 : tie.Need-enum-known-found-2 Inv-loop μ-loop
 enum-known-found-2 c = search needs
 
-cast-k : tie.Need-cast-k Inv-loop μ-loop
-cast-k c = search needs
-
-mul-t15 : tie.Need-mul-t15 Inv-loop μ-loop
-mul-t15 c = search needs
-
-slice-read-t17 : tie.Need-slice-read-t17 Inv-loop μ-loop
-slice-read-t17 c = search has-a-line
-
-at-line-requires : tie.Need-at-line-requires Inv-loop μ-loop
-at-line-requires c κs = search needs
-
-line-around-requires : tie.Need-line-around-requires Inv-loop μ-loop
-line-around-requires c κs = (search needs, search in-the-inner)
-
-mul-seen : tie.Need-mul-seen Inv-loop μ-loop
-mul-seen c = search needs
-
-slice-write-seen : tie.Need-slice-write-seen Inv-loop μ-loop
-slice-write-seen c = search has-a-line
+open-requires : tie.Need-open-requires Inv-loop μ-loop
+open-requires c κs = (search needs, (search in-the-inner, search needs))
 
 loop-less : tie.Need-loop-less Inv-loop μ-loop
 loop-less c = search falls
@@ -74,12 +56,6 @@ paste-at-spec =
     same-length
     returns
     enum-known-found-2
-    cast-k
-    mul-t15
-    slice-read-t17
-    at-line-requires
-    line-around-requires
-    mul-seen
-    slice-write-seen
+    open-requires
     loop-less
     loop-again)
