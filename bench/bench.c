@@ -62,6 +62,7 @@ struct flatten_row {
 /* Among them the slowest books that we know. No call of ours is to take more than 5 ms; that is read off, and never tested. */
 static const struct flatten_row flatten_rows[] = {
     {"sample A", sample_a, 1, 5000},
+    {"one routine of 4,096 lines, INC", all_inc, 0, 20},
     {"one routine of 4,096 lines, the three mixed", all_mixed, 0, 20},
     {"32 routines of 64 lines, calls three deep", three_deep, 31, 20},
     {"sample H, routine 12", sample_h, 12, 20},

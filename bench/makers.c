@@ -81,11 +81,11 @@ struct book three_deep(void)
     struct text t = {0};
     uint32_t x = 1;
     for (unsigned r = 0; r < 32; r++) {
-        unsigned calls = r < 24 ? 0 : r < 31 ? 4 : 12;
+        unsigned calls = r < 12 ? 0 : r < 24 ? 2 : r < 31 ? 3 : 6;
         add_routine(&t);
         for (unsigned i = 0; i < calls; i++) {
             add_mixed(&t, &x, (64 - calls) / calls, 3, 64);
-            add_lines(&t, 1, CALL, 0, r < 31 ? (5 * r + i) % 24 : 24 + i % 7);
+            add_lines(&t, 1, CALL, 0, r < 31 ? (5 * r + i) % 12 + (r < 24 ? 0 : 12) : 24 + i);
         }
         add_mixed(&t, &x, 64 - t.counts[r], 3, 64);
     }

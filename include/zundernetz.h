@@ -10,16 +10,17 @@
 extern "C" {
 #endif
 
-/* What flattening answers. Where it is refused, lines is 0. */
+/* What flattening answers. Where it is refused, lines is 0; an empty routine has 0 lines too, and is no refusal. */
 struct zn_flatten_answer {
     uint16_t refusal; /* 0, or the number of the refusal */
     uint16_t place;   /* the refusal's place */
     size_t lines;     /* the flat length n */
 };
 
-/* Flattens one routine of a book, with all that it uses. The flat book is written at the front of out: 16 + 4n bytes, at most 16,400;
-   bytes behind them stay. A refusal writes nothing. What the caller owes: book points to book_len bytes and out to out_len bytes, and
-   the two do not overlap; where a length is 0 its pointer may be NULL. Any bytes and numbers may be given. */
+/* Flattens one routine of a book, with all that it uses. The flat book is written at the front of out: 16 + 4n bytes, at most 16,400, and
+   so many go to zn_run; bytes behind them stay. A refusal writes nothing. It takes some 17 KB of stack. What the caller owes: book points
+   to book_len bytes and out to out_len bytes, and the two do not overlap; where a length is 0 its pointer may be NULL. Any bytes and
+   numbers may be given. */
 struct zn_flatten_answer zn_flatten(const uint8_t *book, size_t book_len, size_t routine, uint8_t *out, size_t out_len);
 
 /* The outcome of a run. 0 where it is refused. */

@@ -80,7 +80,7 @@ static void samples(void)
 }
 
 /* So many lines of INC 0. */
-static struct book all_inc(unsigned n)
+static struct book inc_lines(unsigned n)
 {
     struct text t = {0};
     add_routine(&t);
@@ -91,14 +91,14 @@ static struct book all_inc(unsigned n)
 static void sample_h_and_near_it(void)
 {
     struct book h = sample_h();
-    check(gives(&h, 0, all_inc(1)) && gives(&h, 1, all_inc(2)) && gives(&h, 11, all_inc(2048)), "sample H, routines 0, 1 and 11");
-    check(gives(&h, 12, all_inc(4096)), "sample H, routine 12: 4,096 lines");
+    check(gives(&h, 0, inc_lines(1)) && gives(&h, 1, inc_lines(2)) && gives(&h, 11, inc_lines(2048)), "sample H, routines 0, 1 and 11");
+    check(gives(&h, 12, inc_lines(4096)), "sample H, routine 12: 4,096 lines");
     check(refuses(&h, h.length, 13, MOST_ROOM, 13, 0) && refuses(&h, h.length, 13, ROOM, 13, 0), "sample H, routine 13: 13 TOO LONG");
     check(refuses(&h, h.length, 14, MOST_ROOM, 13, 0) && refuses(&h, h.length, 14, ROOM, 13, 0), "CALL 12 and one INC: 13 TOO LONG");
     line(&h, 15, 28, CALL, 0, 11);
     check(refuses(&h, h.length, 14, ROOM, 13, 0), "CALL 12 and CALL 11: 13 TOO LONG");
     line(&h, 15, 27, CALL, 0, 11);
-    check(gives(&h, 14, all_inc(4096)), "two CALL 11: a routine that is too long does no harm where it is not used");
+    check(gives(&h, 14, inc_lines(4096)), "two CALL 11: a routine that is too long does no harm where it is not used");
 }
 
 /* -- jumps. In the books each routine stands on a row of its own. -- */
@@ -191,7 +191,7 @@ static void empty_routines(void)
 }
 
 /* 30 routines over an empty one, each calling the one before so many times, and then a routine with lines of its own. */
-static struct book empty_tower(unsigned times)
+static struct book tower_over_empty(unsigned times)
 {
     struct text t = {0};
     add_routine(&t);
@@ -208,7 +208,7 @@ static struct book empty_tower(unsigned times)
 /* An answer comes at once: opening each copy would take 2^30 steps and more. */
 static void towers_over_an_empty_routine(void)
 {
-    struct book two = empty_tower(2), many = empty_tower(136);
+    struct book two = tower_over_empty(2), many = tower_over_empty(136);
     struct book above = flat(4, (const unsigned[][3]){{INC, 1, 0}, {GO_TO, 0, 1}, {DEC, 3, 4}, {GO_TO, 0, 2}});
     check(gives(&two, 30, flat(0, 0)), "thirty doublings of an empty routine");
     check(gives(&two, 31, above), "lines around thirty doublings of an empty routine");
@@ -289,7 +289,7 @@ static void long_repeats(void)
     add_lines(&due, 1, GO_TO, 0, 0);
     struct book b = repeat_of(4094), over = repeat_of(4095);
     check(gives(&b, 1, book_of(&due)), "a REPEAT of 4,094 lines");
-    check(gives(&over, 0, all_inc(4095)) && refuses(&over, over.length, 1, ROOM, 13, 0), "a REPEAT of 4,095 lines: 13 TOO LONG");
+    check(gives(&over, 0, inc_lines(4095)) && refuses(&over, over.length, 1, ROOM, 13, 0), "a REPEAT of 4,095 lines: 13 TOO LONG");
 }
 
 /* -- lengths that wrap -- */
@@ -309,17 +309,17 @@ static void lengths_of_towers(void)
     int all = 1;
     for (unsigned k = 0; k < 12; k++) {
         b = tower(1u << k, 2);
-        all = all && gives(&b, 12 - k, all_inc(4096)) && too_long_from(&b, 13 - k, 32);
+        all = all && gives(&b, 12 - k, inc_lines(4096)) && too_long_from(&b, 13 - k, 32);
     }
     check(all, "31 doublings of 1, 2, 4 up to 2,048 lines: up to 2^31, 2^32, 2^33 up to 2^42 lines");
     b = tower(3, 2);
-    check(gives(&b, 10, all_inc(3072)) && too_long_from(&b, 11, 32), "31 doublings of three lines");
+    check(gives(&b, 10, inc_lines(3072)) && too_long_from(&b, 11, 32), "31 doublings of three lines");
     b = tower(4, 4);
-    check(gives(&b, 5, all_inc(4096)) && too_long_from(&b, 6, 32), "powers of 4, up to 2^64 lines");
+    check(gives(&b, 5, inc_lines(4096)) && too_long_from(&b, 6, 32), "powers of 4, up to 2^64 lines");
     b = tower(1, 16);
-    check(gives(&b, 3, all_inc(4096)) && too_long_from(&b, 4, 32), "powers of 16: 2^16, 2^32 and 2^64 lines among them");
+    check(gives(&b, 3, inc_lines(4096)) && too_long_from(&b, 4, 32), "powers of 16: 2^16, 2^32 and 2^64 lines among them");
     b = tower(128, 128);
-    check(gives(&b, 0, all_inc(128)) && too_long_from(&b, 1, 32), "powers of 128: up to 2^224 lines");
+    check(gives(&b, 0, inc_lines(128)) && too_long_from(&b, 1, 32), "powers of 128: up to 2^224 lines");
 }
 
 /* Routine k has 16^k lines, as far as 16^(digits - 1). Then come a routine of 16^digits - 2 lines, a REPEAT of it, and a CALL of that with

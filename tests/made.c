@@ -125,11 +125,12 @@ static void one_flattening(unsigned long number)
     size_t lengths[MOST_ROUTINES], routines = make_nested(&book, lengths);
     size_t routine = one_in(12) ? routines + below(3) : one_in(20) ? wide() : one_in(2) ? routines - 1 : below(routines);
     size_t lines = routine < routines ? lengths[routine] : 0;
-    if (one_in(4))
+    int damaged = one_in(4);
+    if (damaged)
         damage(&book);
     struct flattened b = flatten_both(number, routine, made_room(lines));
     near_below += b.lines >= MOST_LINES - 6;
-    near_above += b.refusal.number == TOO_LONG && lines <= MOST_LINES + 4;
+    near_above += b.refusal.number == TOO_LONG && !damaged && lines <= MOST_LINES + 4;
 }
 
 /* -- what came -- */
