@@ -64,7 +64,7 @@ module _ (b : List ℕ) (k n : ℕ) (out out′ : List ℕ) (told : record { ans
   flat-line-at i x (has e) =
       rw flat-book-in-front (read-at flat (flat-program-fits b (routine-flattens .taken) k (routine-flattens .not-too-long)) i e)
 
-  -- Below n one does.
+  -- For each i below n the flat program has one.
   pub flat-line-there : (i : ℕ) → i < n → (x : Instruction) × Has flat i x
   flat-line-there i h = (getD flat i (INC 0), has (drop-cons flat i (INC 0) (omega (arith, h, n-is-its-length))))
 

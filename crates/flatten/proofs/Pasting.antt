@@ -8,7 +8,7 @@ use native.Mathlib.Numerals.{add-one}
 use mathlib.Core.Path.{_≡_, refl, sym, _∙_, ap}
 use mathlib.Core.Logic.{_≢_}
 use mathlib.Core.List.{List, [], _∷_, append-nil}
-use lib.ListN.{length, drop, set, length-set}
+use lib.ListN.{length, drop}
 use Rattle.scope.specs.Ram.{Program, Has, has}
 use Rattle.scope.specs.Book as book
 use Rattle.scope.specs.Book.{Book, most-routines, most-lines, routines, count, REPEAT, line-of, fields-in, routine, Taken, Line-uses, by-CALL, by-REPEAT, Callees-below, book-of}
@@ -235,9 +235,9 @@ module _ (b : List ℕ) (t : Taken b) (at : Place) (p : ℕ) (w : In-the-line b 
 
 -- ---- from the top, and deeper
 
-lies-around : (P : Program) (b : List ℕ) (guess : Place) (p : ℕ) (at : Place) → Has-copy P b (guess .routine) (guess .base .0)
-    → Line-around b guess p at → Lies-in P b at p
-lies-around P b guess p at h s =
+lies-around : (P : Program) (b : List ℕ) (inner : Place) (p : ℕ) (at : Place) → Has-copy P b (inner .routine) (inner .base .0)
+    → Line-around b inner p at → Lies-in P b at p
+lies-around P b inner p at h s =
     record {
       in-the-line = rw (s .same-routine, s .same-base) (s .in-the-line);
       has-copy = rw (s .same-routine, s .same-base) h;

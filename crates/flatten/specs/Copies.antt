@@ -33,11 +33,11 @@ pub record In-the-line (b : List ℕ) (k base i p : ℕ) : Type 0 where
   pub from : base + start (book-of b) k i ≤ p
   pub to : p < base + start (book-of b) k (i + 1)
 
--- a place in the copy of another, at the line in which flat line p lies
-pub record Line-around (b : List ℕ) (guess : Place) (p : ℕ) (at : Place) : Type 0 where
-  pub same-routine : at .routine ≡ guess .routine
-  pub same-base : at .base ≡ guess .base
-  pub in-the-line : In-the-line b (guess .routine) (guess .base .0) (at .line .0) p
+-- A place is in the same copy as another, at the line in which flat line p lies.
+pub record Line-around (b : List ℕ) (copy : Place) (p : ℕ) (at : Place) : Type 0 where
+  pub same-routine : at .routine ≡ copy .routine
+  pub same-base : at .base ≡ copy .base
+  pub in-the-line : In-the-line b (copy .routine) (copy .base .0) (at .line .0) p
 
 -- Flat line p is where line i of the copy starts, or its end.
 pub record Starts-at (b : List ℕ) (k base i p : ℕ) : Type 0 where
