@@ -69,7 +69,7 @@ module _ (b : List ℕ) (k n : ℕ) (out out′ : List ℕ) (told : record { ans
   flat-line-there i h = (getD flat i (INC 0), has (drop-cons flat i (INC 0) (omega (arith, h, n-is-its-length))))
 
   -- A jump that line i of routine c makes, in a copy of the routine that begins at base: it leads to where its line now stands. (The asked
-  -- routine has a copy that begins at 0: `whole-copy-stands`.)
+  -- routine has a copy that begins at 0: `whole-copy-stands` of `scope`.)
   module _ (c base i p t : ℕ) {rest : List Line} (stands : Stands flat base (copy (book-of b) c base)) (there : p ≡ base + start (book-of b) c i) where
     line-left : {l : Line} → drop i (routine (book-of b) c) ≡ l ∷ rest → Stands flat p (copy-line (book-of b) (copy (book-of b)) c base p l)
     line-left e = line-stands (book-of b) (taken-callees-below b (routine-flattens .taken)) c i stands e there

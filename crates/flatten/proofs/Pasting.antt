@@ -7,14 +7,14 @@ use native.Mathlib.Omega.{arith}
 use native.Mathlib.Numerals.{add-one}
 use mathlib.Core.Path.{_≡_, refl, sym, _∙_, ap}
 use mathlib.Core.Logic.{_≢_}
-use mathlib.Core.List.{List, [], _∷_, append-nil}
+use mathlib.Core.List.{List, _∷_}
 use lib.ListN.{length, drop}
 use Rattle.scope.specs.Ram.{Program, Has, has}
 use Rattle.scope.specs.Book as book
 use Rattle.scope.specs.Book.{Book, most-routines, most-lines, routines, count, REPEAT, line-of, fields-in, routine, Taken, Line-uses, by-CALL, by-REPEAT, Callees-below, book-of}
 use Rattle.scope.specs.Flattening.{line-length, flat-length, start, copy-line, copy, flat-program, most-flat-lines}
 use Rattle.scope.proofs.TakenBook.{taken-book, taken-callees-below, line-in-the-book}
-use Rattle.scope.proofs.FlatLines.{first-start, next-start, start-within, Stands, line-stands, repeat-looks, repeated-copy-stands, repeat-goes-back}
+use Rattle.scope.proofs.FlatLines.{first-start, next-start, start-within, Stands, whole-copy-stands, line-stands, repeat-looks, repeated-copy-stands, repeat-goes-back}
 use Rattle.book.specs.declared.header.Counts.{Counts}
 use Rattle.book.specs.declared.lines.Reg.{Reg}
 use Rattle.book.specs.declared.lines.RoutineLine.{RoutineLine}
@@ -243,11 +243,6 @@ lies-around P b inner p at h s =
       has-copy = rw (s .same-routine, s .same-base) h;
     }
 
--- The flat program is the asked routine's copy that begins at 0.
-pub whole-copy-stands : (b : List ℕ) (k : ℕ) → Has-copy (flat-program (book-of b) k) b k 0
-unfolding flat-program
-whole-copy-stands b k = record { behind = []; there = sym (append-nil (copy (book-of b) k 0)) }
-
 module _ (b : List ℕ) (asked : ℕ) (whole : Copy-within b asked 0) where
   abbrev flat : Program
   flat = flat-program (book-of b) asked
@@ -257,7 +252,7 @@ module _ (b : List ℕ) (asked : ℕ) (whole : Copy-within b asked 0) where
       rw e
       (record {
         starts-at = record { copy-within = whole; a-line-or-end = omega arith; starts-there = omega (arith, first-start (book-of b) asked) };
-        has-copy = whole-copy-stands b asked;
+        has-copy = whole-copy-stands (book-of b) asked;
       })
 
   module _ (p : ℕ) (below : p < flat-length (book-of b) asked) where
@@ -267,7 +262,7 @@ module _ (b : List ℕ) (asked : ℕ) (whole : Copy-within b asked 0) where
 
     pub lies-in-the-top : (top at : Place) → top ≡ record { routine = asked; base = record { 0 = 0 }; line = record { 0 = 0 } }
         → Line-around b top p at → Lies-in flat b at p
-    lies-in-the-top top at e = lies-around flat b top p at (rw e (whole-copy-stands b asked))
+    lies-in-the-top top at e = lies-around flat b top p at (rw e (whole-copy-stands (book-of b) asked))
 
 -- The line that starts at p is the one in which p lies, if it ends behind p.
 pub lies-here : (P : Program) (b : List ℕ) (here : Place) (p n end : ℕ) → Comes-to P b here p → n ≡ count b (here .routine) → here .line .0 < n

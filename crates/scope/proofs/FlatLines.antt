@@ -3,7 +3,7 @@
 use Prim.Native.Nat.{ℕ, zero, suc, _+_, _≤_}
 use native.Mathlib.Omega.{arith}
 use mathlib.Core.Path.{_≡_, refl, sym, _∙_, ap}
-use mathlib.Core.List.{List, [], _∷_, _++_, append-assoc, cons≢nil}
+use mathlib.Core.List.{List, [], _∷_, _++_, append-assoc, append-nil, cons≢nil}
 use lib.ListN.{length, take, drop, length-append}
 use lib.Seq.{take-nil, drop-drop, drop-append-seam}
 use Rattle.scope.specs.Ram as ram
@@ -109,6 +109,11 @@ module _ {P : Program} {p : ℕ} where
             (sym (drop-drop (length xs) p P) ∙ ap (drop (length xs)) (s .there ∙ append-assoc xs ys (s .behind))
             ∙ drop-append-seam xs (ys ++ s .behind));
       }
+
+-- The flat program of a routine is the copy of it that begins at 0.
+pub whole-copy-stands : (book : Book) (k : ℕ) → Stands (flat-program book k) 0 (copy book k 0)
+unfolding flat-program
+whole-copy-stands book k = record { behind = []; there = sym (append-nil (copy book k 0)) }
 
 module _ (book : Book) (ok : Callees-below book) where
   -- the end starts at the sum of them all

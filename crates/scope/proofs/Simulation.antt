@@ -3,7 +3,7 @@
 use Prim.Native.Nat.{ℕ, suc, _+_}
 use native.Mathlib.Omega.{arith}
 use mathlib.Core.Path.{_≡_, refl, sym, _∙_}
-use mathlib.Core.List.{List, [], _∷_, append-nil, _++_}
+use mathlib.Core.List.{List, [], _∷_, _++_}
 use lib.ListN.{drop}
 use lib.Seq.{drop-length}
 use Rattle.scope.specs.Ram as ram
@@ -14,7 +14,7 @@ use Rattle.scope.specs.Nested.{Opened-by, a-CALL, a-REPEAT, Place, due, 
 use Rattle.scope.specs.Flattening.{line-length, flat-length, start, copy-line, copy, flat-program}
 use Rattle.scope.specs.Running.{flat-step, flat-next, flat-run}
 use Rattle.scope.specs.Addresses.{begins, behind-its-start, address, Same-end}
-use Rattle.scope.proofs.FlatLines.{length-flat-program, first-start, next-start, Stands, line-stands, repeat-looks, repeated-copy-stands, repeat-goes-back}
+use Rattle.scope.proofs.FlatLines.{length-flat-program, first-start, next-start, Stands, whole-copy-stands, line-stands, repeat-looks, repeated-copy-stands, repeat-goes-back}
 use Rattle.scope.proofs.Lockstep.{Same-next, both-at-the-end, both-go, both-add-one, both-take-one-off, lockstep}
 use Rattle.scope.proofs.Places.{does-inc, does-dec, does-go-to, does-look, does-go-back, Is-open, the-asked, called, repeated, Reached, the-end, a-step, Reached-at, settle-keeps-address}
 
@@ -29,8 +29,8 @@ module _ (book : Book) (ok : Callees-below book) (asked : ℕ) where
   -- The copy of an open routine stands where it begins.
   copy-stands :
       {k : ℕ} {around : List Opened-by} → Is-open book asked k around → Stands flat (begins book around) (copy book k (begins book around))
-  unfolding begins flat-program copy-line
-  copy-stands the-asked = record { behind = []; there = sym (append-nil (copy book asked 0)) }
+  unfolding begins copy-line
+  copy-stands the-asked = whole-copy-stands book asked
   copy-stands {around = a-CALL k i ∷ around} (called e o) = line-stands book ok k i (copy-stands o) e refl
   copy-stands {around = a-REPEAT k i ∷ around} (repeated {r = r} {c = c} e o) =
       let p = begins book around + start book k i in
