@@ -76,6 +76,27 @@ module _ (b : List ℕ) (c : Counts) (t : Taken-with b c) (k : ℕ) where
           (record { taken = t .taken; a-routine = here; not-too-deep = not-too-deep; not-too-long = omega (arith, g, exact) }) in
           ap accepted exact ∙ sym (accepted-where-passed _ passes)
 
+-- ---- what a caller of `flattens` learns
+
+module _ (b : List ℕ) (k : ℕ) (r : Flattened) (told : flattened-told r ≡ answer-of (flattens-verdict b k) (flat-length (book-of b) k)) where
+  pub refused-as-given : {x : Refusal} → r ≡ Refused x → Given-to-flatten b k (refusal-told x)
+  unfolding flattened-told
+  refused-as-given e = to-flatten-given-exactly-when b k _ .0 (refused-exactly-when _ _ _ .0 (sym told ∙ ap flattened-told e))
+
+  module _ (n : ℕ) (flat : r ≡ Flat n) where
+    passed : (flattens-verdict b k ≡ pass) × (flat-length (book-of b) k ≡ n)
+    unfolding flattened-told
+    passed = accepted-only-where-passed _ (sym told ∙ ap flattened-told flat)
+
+    pub it-passes : Flattens b k
+    it-passes = flattens-exactly-when b k .0 (passed .0)
+
+    pub flat-length-is : n ≡ flat-length (book-of b) k
+    flat-length-is = sym (passed .1)
+
+    pub routine-fits : (c : Counts) → Taken-with b c → Fits w16 k
+    routine-fits c t = record { fits = omega (arith, it-passes .a-routine, t .tabled .sized .counts .routines-are, t .tabled .sized .routines-to-32) }
+
 -- ---- flattening
 
 module _ (b : List ℕ) (k : ℕ) (out : List ℕ) where
@@ -91,27 +112,17 @@ module _ (b : List ℕ) (k : ℕ) (out : List ℕ) where
 
   module _ (r : Flattened) (told : flattened-told r ≡ answer-of (flattens-verdict b k) (flat-length (book-of b) k)) where
     pub routine-refused : {x : Refusal} → r ≡ Refused x → record { answer = flattened-told (Refused x); left = out } ≡ flatten-call b k out
-    unfolding flattened-told
-    routine-refused {x} e =
-        refused-with x refl
-        (flattening-before (to-flatten-given-exactly-when b k _ .0 (refused-exactly-when _ _ _ .0 (sym told ∙ ap flattened-told e))))
+    routine-refused {x} e = refused-with x refl (flattening-before (refused-as-given b k r told e))
 
     module _ (n : ℕ) (flat : r ≡ Flat n) where
-      passed : (flattens-verdict b k ≡ pass) × (flat-length (book-of b) k ≡ n)
-      unfolding flattened-told
-      passed = accepted-only-where-passed _ (sym told ∙ ap flattened-told flat)
-
       flattens : Flattens b k
-      flattens = flattens-exactly-when b k .0 (passed .0)
+      flattens = it-passes b k r told n flat
 
-      pub flat-length-is : n ≡ flat-length (book-of b) k
-      flat-length-is = sym (passed .1)
+      exact : n ≡ flat-length (book-of b) k
+      exact = flat-length-is b k r told n flat
 
       few : n ≤ most-flat-lines
-      few = omega (arith, flat-length-is, flattens .not-too-long)
-
-      pub routine-fits : (c : Counts) → Taken-with b c → Fits w16 k
-      routine-fits c t = record { fits = omega (arith, flattens .a-routine, t .tabled .sized .counts .routines-are, t .tabled .sized .routines-to-32) }
+      few = omega (arith, exact, flattens .not-too-long)
 
       pub line-bytes-fit : Fits w64 (4 * n)
       line-bytes-fit = record { fits = omega (arith, few) }
@@ -130,11 +141,11 @@ module _ (b : List ℕ) (k : ℕ) (out : List ℕ) where
       pub no-room : (x : Refusal) → refusal-told x ≡ refusal NO-ROOM 0 → length out < 16 + 4 * n
           → record { answer = flattened-told (Refused x); left = out } ≡ flatten-call b k out
       unfolding flat-book-bytes
-      no-room x s h = refused-with x s (flattening-NO-ROOM flattens (omega (arith, h, flat-length-is)))
+      no-room x s h = refused-with x s (flattening-NO-ROOM flattens (omega (arith, h, exact)))
 
       pub flat-book-there : (out′ : List ℕ) → 16 + 4 * n ≤ length out → out′ ≡ at-the-front-of out (flat-book (flat-program (book-of b) k))
           → record { answer = flattened-told (Flat n); left = out′ } ≡ flatten-call b k out
       unfolding flattened-told flat-book-bytes
       flat-book-there out′ room written =
-          (λ i. record { answer = accepted (flat-length-is i); left = written i })
-          ∙ sym (flatten-accepts b k out flattens (omega (arith, room, flat-length-is)))
+          (λ i. record { answer = accepted (exact i); left = written i })
+          ∙ sym (flatten-accepts b k out flattens (omega (arith, room, exact)))

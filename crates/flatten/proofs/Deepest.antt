@@ -7,15 +7,14 @@ use mathlib.Core.Path.{_≡_, refl, sym, _∙_}
 use mathlib.Core.Logic.{⊎-elim}
 use mathlib.Core.List.{List, [], _∷_}
 use lib.ListN.{length, getD, set, take, drop}
-use lib.Seq.{take-all}
 use Rattle.scope.specs.Words.{_above_}
 use Rattle.scope.specs.Book as book
 use Rattle.scope.specs.Book.{most-routines, routines, count, line-of, fields-in, routine, book-of, used}
 use Rattle.scope.specs.Flattening.{most-open, deepest, depth-by, depth}
 use Rattle.scope.proofs.Verdicts.{one-holds, above-tells}
-use Rattle.scope.proofs.Lists.{nothing-stands}
+use Rattle.scope.proofs.Lists.{said-to-the-next}
 use Rattle.scope.proofs.Lowest.{depth-by-the-rule}
-use Rattle.scope.proofs.TakenBook.{taken-callees-below, line-in-the-book, routine-in-the-book, length-routine-of}
+use Rattle.scope.proofs.TakenBook.{taken-callees-below, line-in-the-book, all-its-lines}
 use Rattle.book.specs.declared.header.Counts.{Counts}
 use Rattle.book.specs.declared.lines.Reg.{Reg}
 use Rattle.book.specs.declared.lines.Line.{Line}
@@ -37,19 +36,18 @@ module _ (b : List ℕ) (c : Counts) (l : Line) (k j : ℕ) (t : Taken-with b c)
 
   module _ (row : List ℕ) (w : Row (depth (book-of b)) depth-cap k row) where
     pub CALL-depth : {q : ℕ} → l ≡ line.Call q → getD row q 0 ≡ min (depth (book-of b) q) depth-cap
-    CALL-depth = CALL-looked-up b c l k j t h s e (depth (book-of b)) depth-cap row w
+    CALL-depth = CALL-looked-up b c l k j t h s e 0 (λ c n. n ≡ min (depth (book-of b) c) depth-cap) row w
 
     pub REPEAT-depth : {g : Reg} {q : ℕ} → l ≡ line.Repeat g q → getD row q 0 ≡ min (depth (book-of b) q) depth-cap
-    REPEAT-depth = REPEAT-looked-up b c l k j t h s e (depth (book-of b)) depth-cap row w
+    REPEAT-depth = REPEAT-looked-up b c l k j t h s e 0 (λ c n. n ≡ min (depth (book-of b) c) depth-cap) row w
 
 -- ---- a routine
 
 deepest-to-the-next : (f : ℕ → ℕ) {l : book.Line} {rest : List book.Line} (ls : List book.Line) (i : ℕ) → drop i ls ≡ l ∷ rest
     → deepest f (take (suc i) ls) ≡ max (deepest f (take i ls)) (used 0 f l)
 unfolding deepest
-deepest-to-the-next f [] i e = nothing-stands i e
-deepest-to-the-next f {l} (x ∷ ls) zero e = let z : x ≡ l = cc in rw z (omega arith)
-deepest-to-the-next f {l} (x ∷ ls) (suc i) e = omega (arith, deepest-to-the-next f ls i e)
+deepest-to-the-next f =
+    said-to-the-next (deepest f) (used 0 f) max (λ x xs. refl) (λ a. omega arith) (λ a. omega arith) (λ a b c. omega arith)
 
 -- The deepest that the first j of routine k's n lines use.
 pub record Deepest-to (b : List ℕ) (k n j d : ℕ) : Type 0 where
@@ -79,9 +77,7 @@ module _ (b : List ℕ) (c : Counts) (k n : ℕ) (t : Taken-with b c) (h : k < c
   pub routine-depth-is : (r : ℕ) → n ≤ j → r ≡ min (1 + d) depth-cap → r ≡ min (depth (book-of b) k) depth-cap
   unfolding depth-by
   routine-depth-is r g e =
-      let long : length (routine (book-of b) k) ≡ n = rw (routine-in-the-book b k here) (length-routine-of b k ∙ sym size) in
-      let whole : take j (routine (book-of b) k) ≡ routine (book-of b) k = take-all j (routine (book-of b) k) (omega (arith, long, g)) in
-      let all = rw whole at (s .so-far) in
+      let all = rw (all-its-lines b k j here (omega (arith, size, g))) at (s .so-far) in
       omega (arith, e, all, depth-by-the-rule (book-of b) (taken-callees-below b (t .taken)) k)
 
 -- ---- the row
@@ -92,7 +88,7 @@ pub record Depths-to (b : List ℕ) (routine k : ℕ) (depths : List ℕ) : Type
   pub depths-are : Row (depth (book-of b)) depth-cap k depths
 
 pub no-depth-yet : (b : List ℕ) (routine : ℕ) (depths : List ℕ) → length depths ≡ most-routines → Depths-to b routine 0 depths
-no-depth-yet b routine depths long = record { upto = omega arith; depths-are = empty-row (depth (book-of b)) depth-cap depths long }
+no-depth-yet b routine depths long = record { upto = omega arith; depths-are = empty-row 0 (λ c n. n ≡ min (depth (book-of b) c) depth-cap) depths long }
 
 module _ (b : List ℕ) (c : Counts) (t : Taken-with b c) (routine k : ℕ) (h : routine < c .routines) (depths : List ℕ)
     (s : Depths-to b routine k depths) where
@@ -104,7 +100,7 @@ module _ (b : List ℕ) (c : Counts) (t : Taken-with b c) (routine k : ℕ) (h :
       record {
         upto = omega (arith, g);
         depths-are =
-            one-more-routine (depth (book-of b)) depth-cap depths k d (s .depths-are) (omega (arith, g, h, t .tabled .sized .routines-to-32)) e;
+            one-more-routine 0 (λ c n. n ≡ min (depth (book-of b) c) depth-cap) depths k d (s .depths-are) (omega (arith, g, h, t .tabled .sized .routines-to-32)) e;
       }
 
   -- Stopped above 32, a depth is above 32 where it was.

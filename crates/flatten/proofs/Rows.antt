@@ -25,21 +25,21 @@ use Rattle.book.specs.Told.{line-told}
 use Rattle.book.specs.Asked.{Taken-with, Entry-within}
 use Rattle.book.proofs.Scanned.{below-R}
 use Rattle.book.proofs.Fits.{CALL-below, REPEAT-below}
-use Rattle.flatten.specs.Rows.{length-cap, Row, slot, due, table-length, Filled, Measured, Table, Measured-all}
+use Rattle.flatten.specs.Rows.{length-cap, Known, Row, slot, due, table-length, Filled, Measured, Table, Measured-all}
 
 -- ---- a row
 
-module _ (said : ℕ → ℕ) (cap : ℕ) (row : List ℕ) where
-  pub empty-row : length row ≡ most-routines → Row said cap 0 row
+module _ {A : Type 0} (none : A) (Is : ℕ → A → Type 0) (row : List A) where
+  pub empty-row : length row ≡ most-routines → Known none Is 0 row
   empty-row long = record { long = long; each = λ c h. absurd (omega arith) }
 
-  pub one-more-routine : (k n : ℕ) → Row said cap k row → k < most-routines → n ≡ min (said k) cap → Row said cap (k + 1) (set row k n)
-  one-more-routine k n w h e =
-      record { long = length-set row k n ∙ w .long; each = λ c low. put c low (ℕ-discrete c k) }
+  pub one-more-routine : (k : ℕ) (a : A) → Known none Is k row → k < most-routines → Is k a → Known none Is (k + 1) (set row k a)
+  one-more-routine k a w h e =
+      record { long = length-set row k a ∙ w .long; each = λ c low. put c low (ℕ-discrete c k) }
     where
-      put : (c : ℕ) → c < k + 1 → Dec (c ≡ k) → getD (set row k n) c 0 ≡ min (said c) cap
-      put c low (yes same) = rw same (getD-set-same row k n 0 (omega (arith, h, w .long)) ∙ e)
-      put c low (no other) = getD-set-other row k c n 0 other ∙ w .each c (omega (arith, low, other))
+      put : (c : ℕ) → c < k + 1 → Dec (c ≡ k) → Is c (getD (set row k a) c none)
+      put c low (yes same) = rw (same, getD-set-same row k a none (omega (arith, h, w .long))) e
+      put c low (no other) = rw (getD-set-other row k c a none other) (w .each c (omega (arith, low, other)))
 
 -- Line j of routine k is l, and the row has what is said of the routines below k: so it has what is said of the one that the line uses.
 module _ (b : List ℕ) (c : Counts) (l : Line) (k j : ℕ) (t : Taken-with b c) (h : k < c .routines) (s : j < count b k)
@@ -53,7 +53,7 @@ module _ (b : List ℕ) (c : Counts) (l : Line) (k j : ℕ) (t : Taken-with b c)
       → n ≡ min (line-length (flat-length (book-of b)) (line-of (fields-in b k j))) length-cap
   length-is = said-of-the-line (line-length (flat-length (book-of b))) length-cap
 
-  module _ (said : ℕ → ℕ) (cap : ℕ) (row : List ℕ) (w : Row said cap k row) where
+  module _ {A : Type 0} (none : A) (Is : ℕ → A → Type 0) (row : List A) (w : Known none Is k row) where
     in-the-row : {q : ℕ} → q < k → q < length row
     in-the-row g = omega (arith, g, h, w .long, t .tabled .sized .routines-to-32)
 
@@ -63,20 +63,20 @@ module _ (b : List ℕ) (c : Counts) (l : Line) (k j : ℕ) (t : Taken-with b c)
     pub REPEAT-in-the-row : {g : Reg} {q : ℕ} → l ≡ line.Repeat g q → q < length row
     REPEAT-in-the-row d = in-the-row (REPEAT-below b c l k j t h s e d)
 
-    pub CALL-looked-up : {q : ℕ} → l ≡ line.Call q → getD row q 0 ≡ min (said q) cap
+    pub CALL-looked-up : {q : ℕ} → l ≡ line.Call q → Is q (getD row q none)
     CALL-looked-up d = w .each _ (CALL-below b c l k j t h s e d)
 
-    pub REPEAT-looked-up : {g : Reg} {q : ℕ} → l ≡ line.Repeat g q → getD row q 0 ≡ min (said q) cap
+    pub REPEAT-looked-up : {g : Reg} {q : ℕ} → l ≡ line.Repeat g q → Is q (getD row q none)
     REPEAT-looked-up d = w .each _ (REPEAT-below b c l k j t h s e d)
 
   -- CALL the length of the routine; REPEAT that length plus 2.
   module _ (row : List ℕ) (w : Row (flat-length (book-of b)) length-cap k row) where
     pub CALL-length : {q : ℕ} → l ≡ line.Call q → getD row q 0 ≡ min (flat-length (book-of b) q) length-cap
-    CALL-length = CALL-looked-up (flat-length (book-of b)) length-cap row w
+    CALL-length = CALL-looked-up 0 (λ c n. n ≡ min (flat-length (book-of b) c) length-cap) row w
 
     module _ {g : Reg} {q : ℕ} (d : l ≡ line.Repeat g q) where
       looked-up : getD row q 0 ≡ min (flat-length (book-of b) q) length-cap
-      looked-up = REPEAT-looked-up (flat-length (book-of b)) length-cap row w d
+      looked-up = REPEAT-looked-up 0 (λ c n. n ≡ min (flat-length (book-of b) c) length-cap) row w d
 
       pub REPEAT-length-fits : Fits w32 (getD row q 0 + 2)
       REPEAT-length-fits = record { fits = omega (arith, looked-up) }
@@ -106,6 +106,16 @@ module _ (b : List ℕ) (c : Counts) (k : ℕ) (t : Taken-with b c) (h : k < c .
       let same : r ≡ k = omega arith in
       let first : first-line b r ≡ first-line b k = ap (first-line b) same in
       (same, omega (arith, e, first))) (one-holds (below-tells k r))) (one-holds (below-tells r k))
+
+  module _ (j sum : ℕ) (there : j < count b k) (so-far : sum ≡ min (start (book-of b) k j) length-cap) (m : ℕ)
+      (long : m ≡ min (line-length (flat-length (book-of b)) (line-of (fields-in b k j))) length-cap) where
+    pub next-start-fits : Fits w32 (sum + m)
+    next-start-fits = record { fits = omega (arith, so-far, long) }
+
+    pub next-start-is : (n : ℕ) → n ≡ min (sum + m) length-cap → n ≡ min (start (book-of b) k (j + 1)) length-cap
+    next-start-is n e =
+        let next = next-start (book-of b) k j (line-in-the-book b k j here there) in
+        rw (add-one j) (omega (arith, so-far, long, e, next))
 
   module _ (j q v : ℕ) (starts : List ℕ) (n : j ≤ count b k) (room : q < length starts) (f : Filled b (slot b k j) starts) (at : q ≡ slot b k j) where
     one-more-start : v ≡ min (start (book-of b) k j) length-cap → Filled b (slot b k j + 1) (set starts q v)
@@ -158,17 +168,16 @@ module _ (b : List ℕ) (c : Counts) (k n : ℕ) (t : Taken-with b c) (h : k < c
     filled-on : Filled b (slot b k j + 1) (set starts (at + j) sum)
     filled-on = one-more-start b c k t h j (at + j) sum starts within (omega (arith, s .upto, s .long, s .room)) (s .filled) slot-j (s .so-far)
 
-    pub one-more-summed : (m sum′ : ℕ) → j < n → m ≡ min (line-length (flat-length (book-of b)) (line-of (fields-in b k j))) length-cap
-        → sum′ ≡ min (sum + m) length-cap → Summing b k n at (j + 1) sum′ (set starts (at + j) sum)
+    pub one-more-summed : (sum′ : ℕ) → j < n → sum′ ≡ min (start (book-of b) k (j + 1)) length-cap
+        → Summing b k n at (j + 1) sum′ (set starts (at + j) sum)
     unfolding slot
-    one-more-summed m sum′ g long more =
-        let stands = line-in-the-book b k j (here b c k t h) (rw size at g) in
+    one-more-summed sum′ g more =
         let next : first-line b k + k + j + 1 ≡ first-line b k + k + (j + 1) = omega arith in
         record {
           upto = omega (arith, g);
           long = length-set starts (at + j) sum ∙ s .long;
           room = s .room;
-          so-far = rw (add-one j) (omega (arith, s .so-far, long, more, next-start (book-of b) k j stands));
+          so-far = more;
           filled = rw next at filled-on;
         }
 
@@ -197,7 +206,7 @@ unfolding due first-line-due
 nothing-measured b R lengths starts long tall =
     record {
       upto = omega arith;
-      lengths-are = empty-row (flat-length (book-of b)) length-cap lengths long;
+      lengths-are = empty-row 0 (λ c n. n ≡ min (flat-length (book-of b) c) length-cap) lengths long;
       long = tall;
       filled = record { each = λ r i g m low. absurd (omega (arith, low)) };
     }
@@ -209,7 +218,7 @@ module _ (b : List ℕ) (c : Counts) (t : Taken-with b c) (k : ℕ) (lengths sta
       record {
         upto = omega (arith, h);
         lengths-are =
-            one-more-routine (flat-length (book-of b)) length-cap lengths k n (s .lengths-are) (omega (arith, h, t .tabled .sized .routines-to-32)) (m .length-is);
+            one-more-routine 0 (λ c n. n ≡ min (flat-length (book-of b) c) length-cap) lengths k n (s .lengths-are) (omega (arith, h, t .tabled .sized .routines-to-32)) (m .length-is);
         long = same ∙ s .long;
         filled = m .filled;
       }

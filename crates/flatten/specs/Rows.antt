@@ -1,5 +1,5 @@
--- A row of numbers stopped at a cap, and the table of starts, both filled from the lowest routine up.
--- Only contracts inside this crate cite them. Assumes nothing.
+-- A row with a place for each routine, and the table of starts, both filled from the lowest routine up.
+-- Contracts of `lengths` cite them, and of crates above that keep rows. Assumes nothing.
 use Prim.Native.Nat.{ℕ, _+_, _<_, _≤_, min}
 use mathlib.Core.Path.{_≡_}
 use mathlib.Core.List.{List}
@@ -11,10 +11,14 @@ use Rattle.scope.specs.Flattening.{flat-length, start, most-flat-lines}
 abbrev pub length-cap : ℕ
 length-cap = most-flat-lines + 1
 
--- What is said of the routines below k, each number stopped at the cap.
-pub record Row (said : ℕ → ℕ) (cap k : ℕ) (row : List ℕ) : Type 0 where
+-- What is known of the routines below k, in a row with a place for each routine.
+pub record Known {A : Type 0} (none : A) (Is : (routine : ℕ) → A → Type 0) (k : ℕ) (row : List A) : Type 0 where
   pub long : length row ≡ most-routines
-  pub each : (c : ℕ) → c < k → getD row c 0 ≡ min (said c) cap
+  pub each : (c : ℕ) → c < k → Is c (getD row c none)
+
+-- What is said of the routines below k, each number stopped at the cap.
+abbrev pub Row : (said : ℕ → ℕ) (cap k : ℕ) (row : List ℕ) → Type 0
+Row said cap = Known 0 (λ c n. n ≡ min (said c) cap)
 
 -- The table has a number for each line, and for each routine's end.
 abbrev pub table-length : ℕ

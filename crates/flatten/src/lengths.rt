@@ -16,7 +16,7 @@ use book::table::count;
 use book::table::first_line;
 
 // A row has a number for each routine.
-pub(crate) const ROW: usize = MOST_ROUTINES as usize;
+pub const ROW: usize = MOST_ROUTINES as usize;
 
 // The table of starts has one for each line, and for each routine's end.
 pub(crate) const TABLE: usize = MOST_LINES as usize + MOST_ROUTINES as usize;
@@ -54,6 +54,25 @@ fn line_length(b: &[u8], counts: Counts, k: u16, j: RoutineLine, lengths: &[u32]
     }
 }
 
+// A line starts at the sum of the lengths before it: where the line behind line j starts, if line j starts here.
+pub fn next_start(
+    b: &[u8],
+    counts: Counts,
+    k: u16,
+    j: RoutineLine,
+    lengths: &[u32],
+    here: u32,
+) -> u32
+    requires { ⌜ Taken-with (now b) counts ⌝ }
+    requires { ⌜ k < counts .routines ⌝ }
+    requires { ⌜ j .0 < count (now b) k ⌝ }
+    requires { ⌜ Row (flat-length (book-of (now b))) length-cap k (now lengths) ⌝ }
+    requires { ⌜ here ≡ min (start (book-of (now b)) k (j .0)) length-cap ⌝ }
+    ensures { λ r. ⌜ r ≡ min (start (book-of (now (b .entry))) k (j .0 + 1)) length-cap ⌝ }
+{
+    capped(here + line_length(b, counts, k, j, lengths), LENGTH_CAP)
+}
+
 // Where the starts of routine k's lines stand in the table, and behind them its end's.
 fn part(b: &[u8], k: u16) -> usize
     requires { ⌜ Entry-within (now b) k ⌝ }
@@ -62,7 +81,7 @@ fn part(b: &[u8], k: u16) -> usize
     first_line(b, k) as usize + k as usize
 }
 
-// A line starts at the sum of the lengths before it. Puts routine k's starts in the table; the last is its length.
+// Puts routine k's starts in the table; the last is its length.
 fn measure(b: &[u8], counts: Counts, k: u16, lengths: &[u32], starts: &mut [u32]) -> u32
     requires { ⌜ Taken-with (now b) counts ⌝ }
     requires { ⌜ k < counts .routines ⌝ }
@@ -77,10 +96,7 @@ fn measure(b: &[u8], counts: Counts, k: u16, lengths: &[u32], starts: &mut [u32]
     let mut j: u16 = 0;
     while j < n {
         starts[at + j as usize] = sum;
-        sum = capped(
-            sum + line_length(b, counts, k, RoutineLine(j), lengths),
-            LENGTH_CAP,
-        );
+        sum = next_start(b, counts, k, RoutineLine(j), lengths, sum);
         j += 1;
     }
     starts[at + n as usize] = sum;

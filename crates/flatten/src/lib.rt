@@ -1,7 +1,7 @@
 // Flattening: a routine of a book, with all that it uses, becomes one flat program.
 mod copying; // copying.rt: what stands at each flat line
 mod depth; // depth.rt: test 11
-mod lengths; // lengths.rt: how long each routine is, and where its lines start
+pub mod lengths; // lengths.rt: how long each routine is, and where its lines start
 
 ghost use mathlib.Core.Path.{_≡_};
 ghost use Rattle.scope.specs.Refusals.{answer-of};
@@ -27,7 +27,7 @@ pub enum Flattened {
 }
 
 // Then: flattening 12, 11, 13; quote 12, 11, 13. 12 NO ROUTINE: asked routine not below R. 13 TOO LONG: flat length above 4,096.
-fn flattens(b: &[u8], counts: Counts, routine: usize, lengths: &[u32]) -> Flattened
+pub fn flattens(b: &[u8], counts: Counts, routine: usize, lengths: &[u32]) -> Flattened
     requires { ⌜ Taken-with (now b) counts ⌝ }
     requires { ⌜ Row (flat-length (book-of (now b))) length-cap (routines (now b)) (now lengths) ⌝ }
     ensures { λ r. ⌜ flattened-told r ≡ answer-of (flattens-verdict (now (b .entry)) routine) (flat-length (book-of (now (b .entry))) routine) ⌝ }

@@ -10,19 +10,18 @@ use Rattle.scope.specs.Ram as ram
 use Rattle.scope.specs.Ram.{Program}
 use Rattle.scope.specs.Book.{Line, INC, DEC, GO-TO, CALL, REPEAT, Book, routine, Callees-below, said-below, from-the-lowest-up}
 use Rattle.scope.specs.Flattening.{line-length, sum-of, length-by, flat-length, start, copy-line, copy-lines, copy-by, copy, flat-program}
-use Rattle.scope.proofs.Lists.{nothing-stands}
+use Rattle.scope.proofs.Lists.{nothing-stands, said-to-the-next}
 use Rattle.scope.proofs.Lowest.{flat-length-by-the-rule, copy-by-the-rule}
 
 -- ---- sums up to a line
 
 module _ (of-line : Line → ℕ) where
-  sum-to-the-next :
+  pub sum-to-the-next :
       {l : Line} {rest : List Line} (ls : List Line) (i : ℕ) → drop i ls ≡ l ∷ rest
       → sum-of of-line (take (suc i) ls) ≡ sum-of of-line (take i ls) + of-line l
   unfolding sum-of
-  sum-to-the-next [] i e = nothing-stands i e
-  sum-to-the-next {l} (x ∷ ls) zero e = let z : x ≡ l = cc in rw z (omega arith)
-  sum-to-the-next {l} (x ∷ ls) (suc i) e = omega (arith, sum-to-the-next ls i e)
+  sum-to-the-next =
+      said-to-the-next (sum-of of-line) of-line _+_ (λ x xs. refl) (λ a. omega arith) (λ a. omega arith) (λ a b c. omega arith)
 
   sum-to-the-end : (ls : List Line) (i : ℕ) → drop i ls ≡ [] → sum-of of-line (take i ls) ≡ sum-of of-line ls
   unfolding sum-of

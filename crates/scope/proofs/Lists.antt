@@ -4,7 +4,7 @@ use Prim.Native.Nat.{ℕ, zero, suc, _+_, _-_, _<_}
 use native.Mathlib.Omega.{arith}
 use mathlib.Core.Path.{_≡_, refl, sym, _∙_, ap}
 use mathlib.Core.List.{List, [], _∷_, map, nil≢cons}
-use lib.ListN.{length, getD, drop, length-drop}
+use lib.ListN.{length, getD, take, drop, length-drop}
 use lib.Seq.{drop-nil, drop-drop, drop-cons}
 use Rattle.scope.specs.Words.{listed}
 
@@ -65,3 +65,19 @@ pub listed-map : {A B : Type 0} (g : B → A) (f : ℕ → A) (h : ℕ → B) (i
 unfolding listed
 listed-map g f h i zero same = refl
 listed-map g f h i (suc n) same = rw (same i (omega arith), listed-map g f h (suc i) n (λ k l. same k (omega arith)))
+
+-- What is said of a list by joining what is said of its members: of the first i + 1 it is said by one more joining at the end.
+module _ {A B : Type 0} (said : List B → A) (of-one : B → A) (join : A → A → A) (first-joined : (x : B) (xs : List B) → said (x ∷ xs) ≡ join (of-one x) (said xs))
+    (none-before : (a : A) → join (said []) a ≡ a) (none-behind : (a : A) → join a (said []) ≡ a)
+    (in-any-order : (a b c : A) → join a (join b c) ≡ join (join a b) c) where
+  pub said-to-the-next : {y : B} {rest : List B} (xs : List B) (i : ℕ) → drop i xs ≡ y ∷ rest
+      → said (take (suc i) xs) ≡ join (said (take i xs)) (of-one y)
+  said-to-the-next [] i e = nothing-stands i e
+  said-to-the-next {y} (x ∷ xs) zero e =
+      let z : x ≡ y = cc in
+      rw z (first-joined y [] ∙ none-behind (of-one y) ∙ sym (none-before (of-one y)))
+  said-to-the-next {y} (x ∷ xs) (suc i) e =
+      first-joined x (take (suc i) xs)
+      ∙ ap (join (of-one x)) (said-to-the-next xs i e)
+      ∙ in-any-order (of-one x) (said (take i xs)) (of-one y)
+      ∙ ap (λ a. join a (of-one y)) (sym (first-joined x (take i xs)))

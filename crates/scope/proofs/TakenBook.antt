@@ -5,7 +5,8 @@ use native.Mathlib.Omega.{arith}
 use mathlib.Core.Path.{_≡_, refl, sym, _∙_, ap}
 use mathlib.Core.Logic.{inl, inr, ⊎-elim}
 use mathlib.Core.List.{List, [], _∷_}
-use lib.ListN.{length, drop, drop-of-length-le, List·getD-eq-default}
+use lib.ListN.{length, take, drop, drop-of-length-le, List·getD-eq-default}
+use lib.Seq.{take-all}
 use Rattle.scope.specs.Words.{if, listed}
 use Rattle.scope.specs.Refusals.{pass}
 use Rattle.scope.specs.Book.{the-format, header-bytes, format, routine-table, line-table, line-table-due, most-routines, most-lines, last-register, routines, lines, stated-length, length-due, first-line, count, first-line-due, Line-fields, Line, INC, DEC, GO-TO, CALL, REPEAT, INC-kind, DEC-kind, GO-TO-kind, CALL-kind, REPEAT-kind, fields-of, line-of, fields-in, header-verdict, table-verdict, book-verdict, Taken, routine, routine-of, book-of, Line-uses, by-CALL, by-REPEAT, Callees-below}
@@ -165,6 +166,9 @@ line-in-the-book b k j h s = rw (routine-in-the-book b k h) (stands-in-its-routi
 pub routine-ends : (b : List ℕ) (k : ℕ) → k < routines b → drop (count b k) (routine (book-of b) k) ≡ []
 routine-ends b k h =
     rw (routine-in-the-book b k h) (drop-of-length-le (routine-of b k) {i = count b k} (omega (arith, length-routine-of b k)))
+
+pub all-its-lines : (b : List ℕ) (k j : ℕ) → k < routines b → count b k ≤ j → take j (routine (book-of b) k) ≡ routine (book-of b) k
+all-its-lines b k j h s = rw (routine-in-the-book b k h) (take-all j (routine-of b k) (omega (arith, s, length-routine-of b k)))
 
 -- What stands in the book at line j of routine k is line j of that routine.
 pub record Stands-in (b : List ℕ) (k j : ℕ) (l : Line) : Type 0 where

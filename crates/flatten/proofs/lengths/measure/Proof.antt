@@ -1,8 +1,8 @@
 -- `lengths::measure` puts where the lines of a routine start in the table, and is its length.
 -- The first j lines are measured (`Summing`); the count less j falls. Assumes nothing.
-use borrow.Author.Needs.{needs}
 use Rattle.flatten.proofs.lengths.measure.Statement.{statement}
 use Rattle.flatten.proofs.lengths.measure.Tie as tie
+use borrow.Author.Needs.{needs}
 use Prim.Native.Nat.{_-_}
 use Rattle.flatten.proofs.Rows.{line-is-there, as-long-as-lent, Summing, nothing-summed, one-more-summed, routine-measured}
 
@@ -33,14 +33,8 @@ mul-starts c = search needs
 slice-write-starts : tie.Need-slice-write-starts Inv-loop μ-loop
 slice-write-starts c = search needs
 
-line-length-requires : tie.Need-line-length-requires Inv-loop μ-loop
-line-length-requires c κs = search line-is-there
-
-add-capped : tie.Need-add-capped Inv-loop μ-loop
-add-capped c = search needs
-
-capped-requires : tie.Need-capped-requires Inv-loop μ-loop
-capped-requires c κs = search needs
+next-start-requires : tie.Need-next-start-requires Inv-loop μ-loop
+next-start-requires c κs = (search needs, (search needs, (search line-is-there, (search needs, search needs))))
 
 add-j : tie.Need-add-j Inv-loop μ-loop
 add-j c = search needs
@@ -82,9 +76,7 @@ measure-spec =
     add-starts
     mul-starts
     slice-write-starts
-    line-length-requires
-    add-capped
-    capped-requires
+    next-start-requires
     add-j
     loop-less
     loop-again

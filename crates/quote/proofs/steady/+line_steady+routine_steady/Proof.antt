@@ -1,0 +1,375 @@
+-- `steady::line_steady` and `steady::routine_steady` tell whether a line, and a routine from a line on, are steady.
+-- The routine number falls, then the lines left (`lines-left`); a routine below the mark is looked up. Assumes nothing.
+use Prim.Native.Nat.{ℕ, _+_, _<_}
+use borrow.Fn.Kinds.{In}
+use borrow.Fn.PlainCycle.{Measures, is, falls, and}
+use Rattle.quote.proofs.steady.line_steady.Reads as line-steady
+use Rattle.quote.proofs.steady.line_steady.Kinds as line-steady-kinds
+use Rattle.quote.proofs.steady.+line_steady+routine_steady.Lts-line_steady as line-steady-lts
+use Rattle.quote.proofs.steady.routine_steady.Reads as routine-steady
+use Rattle.quote.proofs.steady.routine_steady.Kinds as routine-steady-kinds
+use Rattle.quote.proofs.steady.+line_steady+routine_steady.Lts-routine_steady as routine-steady-lts
+use Rattle.book.proofs.lines.line_at.Reads as line-at-reads
+use Rattle.book.proofs.table.count.Reads as count-reads
+use Rattle.quote.proofs.naming.has.Reads as has-reads
+use Rattle.quote.proofs.steady.+line_steady+routine_steady.{statement}
+use Rattle.quote.proofs.steady.+line_steady+routine_steady.Tie.{close}
+use borrow.Author.Needs.{needs}
+use Rattle.scope.specs.Quote as paper
+use Rattle.book.specs.Told.{line-told}
+use Rattle.book.proofs.Fits.{REPEAT-register}
+use Rattle.flatten.proofs.Rows.{line-is-there}
+use Rattle.quote.proofs.Steadiness.{lines-left, from-line-0, not-below, said-of-the-line, CALL-there, CALL-falls, CALL-steady, REPEAT-there, REPEAT-falls, REPEAT-has-a-mask, REPEAT-of-a-named, REPEAT-steady, routine-has-an-answer, answer-in-the-row, no-line-left, line-falls, next-falls, next-line-fits, rest-decides, line-decides}
+
+abbrev μ-line-steady : Measures 3 line-steady-kinds.ps ℕ
+μ-line-steady κs a = lines-left (a .1 .1 .1 .1 .1 .0) (a .1 .1 .1 .1 .1 .1 .0 .0)
+
+abbrev μ-routine-steady : Measures 3 routine-steady-kinds.ps ℕ
+μ-routine-steady κs a = lines-left (a .1 .1 .1 .1 .1 .0) (a .1 .1 .1 .1 .1 .1 .0 .0) + 1
+
+abbrev line-steady-at : ℕ → In 3 line-steady-kinds.ps
+line-steady-at t =
+    and 3 line-steady-kinds.ps (is 3 line-steady-kinds.ps μ-line-steady t) line-steady.Pre
+
+abbrev line-steady-below : ℕ → In 3 line-steady-kinds.ps
+line-steady-below t =
+    and 3 line-steady-kinds.ps (falls 3 line-steady-kinds.ps _<_ μ-line-steady t) line-steady.Pre
+
+abbrev routine-steady-at : ℕ → In 3 routine-steady-kinds.ps
+routine-steady-at t =
+    and
+    3
+    routine-steady-kinds.ps
+    (is 3 routine-steady-kinds.ps μ-routine-steady t)
+    routine-steady.Pre
+
+abbrev routine-steady-below : ℕ → In 3 routine-steady-kinds.ps
+routine-steady-below t =
+    and
+    3
+    routine-steady-kinds.ps
+    (falls 3 routine-steady-kinds.ps _<_ μ-routine-steady t)
+    routine-steady.Pre
+
+line-steady-line-at-requires : (t : ℕ) → line-steady-lts.Need-line-at-requires (
+  line-at-reads.Asked,
+  line-at-reads.Learnt,
+  routine-steady-below t,
+  routine-steady.Post,
+  has-reads.Asked,
+  has-reads.Learnt,
+) (line-steady-at t) line-steady.Post
+line-steady-line-at-requires t c κs = search needs
+
+line-steady-enum-told : (t : ℕ) → line-steady-lts.Need-enum-told (
+  line-at-reads.Asked,
+  line-at-reads.Learnt,
+  routine-steady-below t,
+  routine-steady.Post,
+  has-reads.Asked,
+  has-reads.Learnt,
+) (line-steady-at t) line-steady.Post
+line-steady-enum-told t c = search needs
+
+line-steady-enum-known-line : (t : ℕ) → line-steady-lts.Need-enum-known-line (
+  line-at-reads.Asked,
+  line-at-reads.Learnt,
+  routine-steady-below t,
+  routine-steady.Post,
+  has-reads.Asked,
+  has-reads.Learnt,
+) (line-steady-at t) line-steady.Post
+line-steady-enum-known-line t c = search needs
+
+line-steady-enum-known-line-2 : (t : ℕ) → line-steady-lts.Need-enum-known-line-2 (
+  line-at-reads.Asked,
+  line-at-reads.Learnt,
+  routine-steady-below t,
+  routine-steady.Post,
+  has-reads.Asked,
+  has-reads.Learnt,
+) (line-steady-at t) line-steady.Post
+line-steady-enum-known-line-2 t c = search needs
+
+line-steady-enum-known-line-3 : (t : ℕ) → line-steady-lts.Need-enum-known-line-3 (
+  line-at-reads.Asked,
+  line-at-reads.Learnt,
+  routine-steady-below t,
+  routine-steady.Post,
+  has-reads.Asked,
+  has-reads.Learnt,
+) (line-steady-at t) line-steady.Post
+line-steady-enum-known-line-3 t c = search needs
+
+line-steady-routine-steady-requires : (t : ℕ) → line-steady-lts.Need-routine-steady-requires (
+  line-at-reads.Asked,
+  line-at-reads.Learnt,
+  routine-steady-below t,
+  routine-steady.Post,
+  has-reads.Asked,
+  has-reads.Learnt,
+) (line-steady-at t) line-steady.Post
+line-steady-routine-steady-requires t c κs = (search CALL-falls, (search needs, (search needs, (search needs, (search CALL-there, search from-line-0)))))
+
+line-steady-enum-known-line-4 : (t : ℕ) → line-steady-lts.Need-enum-known-line-4 (
+  line-at-reads.Asked,
+  line-at-reads.Learnt,
+  routine-steady-below t,
+  routine-steady.Post,
+  has-reads.Asked,
+  has-reads.Learnt,
+) (line-steady-at t) line-steady.Post
+line-steady-enum-known-line-4 t c = search needs
+
+line-steady-cast-has : (t : ℕ) → line-steady-lts.Need-cast-has (
+  line-at-reads.Asked,
+  line-at-reads.Learnt,
+  routine-steady-below t,
+  routine-steady.Post,
+  has-reads.Asked,
+  has-reads.Learnt,
+) (line-steady-at t) line-steady.Post
+line-steady-cast-has t c = search needs
+
+line-steady-mul-has : (t : ℕ) → line-steady-lts.Need-mul-has (
+  line-at-reads.Asked,
+  line-at-reads.Learnt,
+  routine-steady-below t,
+  routine-steady.Post,
+  has-reads.Asked,
+  has-reads.Learnt,
+) (line-steady-at t) line-steady.Post
+line-steady-mul-has t c = search needs
+
+line-steady-shared-slice-read-has : (t : ℕ) → line-steady-lts.Need-shared-slice-read-has (
+  line-at-reads.Asked,
+  line-at-reads.Learnt,
+  routine-steady-below t,
+  routine-steady.Post,
+  has-reads.Asked,
+  has-reads.Learnt,
+) (line-steady-at t) line-steady.Post
+line-steady-shared-slice-read-has t c = search REPEAT-has-a-mask
+
+line-steady-has-requires : (t : ℕ) → line-steady-lts.Need-has-requires (
+  line-at-reads.Asked,
+  line-at-reads.Learnt,
+  routine-steady-below t,
+  routine-steady.Post,
+  has-reads.Asked,
+  has-reads.Learnt,
+) (line-steady-at t) line-steady.Post
+line-steady-has-requires t c κs = search REPEAT-register
+
+line-steady-returns : (t : ℕ) → line-steady-lts.Need-returns (
+  line-at-reads.Asked,
+  line-at-reads.Learnt,
+  routine-steady-below t,
+  routine-steady.Post,
+  has-reads.Asked,
+  has-reads.Learnt,
+) (line-steady-at t) line-steady.Post
+line-steady-returns t c = search REPEAT-of-a-named
+
+line-steady-routine-steady-requires-2 : (t : ℕ) → line-steady-lts.Need-routine-steady-requires-2 (
+  line-at-reads.Asked,
+  line-at-reads.Learnt,
+  routine-steady-below t,
+  routine-steady.Post,
+  has-reads.Asked,
+  has-reads.Learnt,
+) (line-steady-at t) line-steady.Post
+line-steady-routine-steady-requires-2 t c κs = (search REPEAT-falls, (search needs, (search needs, (search needs, (search REPEAT-there, search from-line-0)))))
+
+line-steady-returns-2 : (t : ℕ) → line-steady-lts.Need-returns-2 (
+  line-at-reads.Asked,
+  line-at-reads.Learnt,
+  routine-steady-below t,
+  routine-steady.Post,
+  has-reads.Asked,
+  has-reads.Learnt,
+) (line-steady-at t) line-steady.Post
+unfolding paper.line-steady line-told
+line-steady-returns-2 t c = search said-of-the-line
+
+line-steady-returns-3 : (t : ℕ) → line-steady-lts.Need-returns-3 (
+  line-at-reads.Asked,
+  line-at-reads.Learnt,
+  routine-steady-below t,
+  routine-steady.Post,
+  has-reads.Asked,
+  has-reads.Learnt,
+) (line-steady-at t) line-steady.Post
+unfolding paper.line-steady line-told
+line-steady-returns-3 t c = search said-of-the-line
+
+line-steady-returns-4 : (t : ℕ) → line-steady-lts.Need-returns-4 (
+  line-at-reads.Asked,
+  line-at-reads.Learnt,
+  routine-steady-below t,
+  routine-steady.Post,
+  has-reads.Asked,
+  has-reads.Learnt,
+) (line-steady-at t) line-steady.Post
+unfolding paper.line-steady line-told
+line-steady-returns-4 t c = search said-of-the-line
+
+line-steady-returns-5 : (t : ℕ) → line-steady-lts.Need-returns-5 (
+  line-at-reads.Asked,
+  line-at-reads.Learnt,
+  routine-steady-below t,
+  routine-steady.Post,
+  has-reads.Asked,
+  has-reads.Learnt,
+) (line-steady-at t) line-steady.Post
+line-steady-returns-5 t c = search CALL-steady
+
+line-steady-returns-6 : (t : ℕ) → line-steady-lts.Need-returns-6 (
+  line-at-reads.Asked,
+  line-at-reads.Learnt,
+  routine-steady-below t,
+  routine-steady.Post,
+  has-reads.Asked,
+  has-reads.Learnt,
+) (line-steady-at t) line-steady.Post
+line-steady-returns-6 t c = search REPEAT-steady
+
+routine-steady-shared-slice-read-result :
+    (t : ℕ) → routine-steady-lts.Need-shared-slice-read-result (
+      count-reads.Asked,
+      count-reads.Learnt,
+      line-steady-below t,
+      line-steady.Post,
+      routine-steady-below t,
+      routine-steady.Post,
+    ) (routine-steady-at t) routine-steady.Post
+routine-steady-shared-slice-read-result t c = search routine-has-an-answer
+
+routine-steady-returns : (t : ℕ) → routine-steady-lts.Need-returns (
+  count-reads.Asked,
+  count-reads.Learnt,
+  line-steady-below t,
+  line-steady.Post,
+  routine-steady-below t,
+  routine-steady.Post,
+) (routine-steady-at t) routine-steady.Post
+routine-steady-returns t c = search answer-in-the-row
+
+routine-steady-count-requires : (t : ℕ) → routine-steady-lts.Need-count-requires (
+  count-reads.Asked,
+  count-reads.Learnt,
+  line-steady-below t,
+  line-steady.Post,
+  routine-steady-below t,
+  routine-steady.Post,
+) (routine-steady-at t) routine-steady.Post
+routine-steady-count-requires t c κs = search needs
+
+routine-steady-returns-2 : (t : ℕ) → routine-steady-lts.Need-returns-2 (
+  count-reads.Asked,
+  count-reads.Learnt,
+  line-steady-below t,
+  line-steady.Post,
+  routine-steady-below t,
+  routine-steady.Post,
+) (routine-steady-at t) routine-steady.Post
+routine-steady-returns-2 t c = search no-line-left
+
+routine-steady-line-steady-requires : (t : ℕ) → routine-steady-lts.Need-line-steady-requires (
+  count-reads.Asked,
+  count-reads.Learnt,
+  line-steady-below t,
+  line-steady.Post,
+  routine-steady-below t,
+  routine-steady.Post,
+) (routine-steady-at t) routine-steady.Post
+routine-steady-line-steady-requires t c κs = (search line-falls, (search needs, (search needs, (search needs, (search needs, line-is-there _ _ _ _ (c .before .before .count .ensures) (c .if2 .left))))))
+
+routine-steady-add-t14 : (t : ℕ) → routine-steady-lts.Need-add-t14 (
+  count-reads.Asked,
+  count-reads.Learnt,
+  line-steady-below t,
+  line-steady.Post,
+  routine-steady-below t,
+  routine-steady.Post,
+) (routine-steady-at t) routine-steady.Post
+routine-steady-add-t14 t c = search next-line-fits
+
+routine-steady-routine-steady-requires : (t : ℕ) → routine-steady-lts.Need-routine-steady-requires (
+  count-reads.Asked,
+  count-reads.Learnt,
+  line-steady-below t,
+  line-steady.Post,
+  routine-steady-below t,
+  routine-steady.Post,
+) (routine-steady-at t) routine-steady.Post
+routine-steady-routine-steady-requires t c κs = (search next-falls, (search needs, (search needs, (search needs, (search needs, search not-below)))))
+
+routine-steady-returns-3 : (t : ℕ) → routine-steady-lts.Need-returns-3 (
+  count-reads.Asked,
+  count-reads.Learnt,
+  line-steady-below t,
+  line-steady.Post,
+  routine-steady-below t,
+  routine-steady.Post,
+) (routine-steady-at t) routine-steady.Post
+routine-steady-returns-3 t c = search rest-decides
+
+routine-steady-returns-4 : (t : ℕ) → routine-steady-lts.Need-returns-4 (
+  count-reads.Asked,
+  count-reads.Learnt,
+  line-steady-below t,
+  line-steady.Post,
+  routine-steady-below t,
+  routine-steady.Post,
+) (routine-steady-at t) routine-steady.Post
+routine-steady-returns-4 t c = search line-decides
+
+pub +line-steady+routine-steady-spec : {M : Type 1} → statement M
++line-steady+routine-steady-spec = close μ-line-steady μ-routine-steady (λ t. line-steady-lts.spec (
+  line-at-reads.Asked,
+  line-at-reads.Learnt,
+  routine-steady-below t,
+  routine-steady.Post,
+  has-reads.Asked,
+  has-reads.Learnt,
+)
+    (line-steady-at t)
+    line-steady.Post
+    (line-steady-line-at-requires t)
+    (line-steady-enum-told t)
+    (line-steady-enum-known-line t)
+    (line-steady-enum-known-line-2 t)
+    (line-steady-enum-known-line-3 t)
+    (line-steady-routine-steady-requires t)
+    (line-steady-enum-known-line-4 t)
+    (line-steady-cast-has t)
+    (line-steady-mul-has t)
+    (line-steady-shared-slice-read-has t)
+    (line-steady-has-requires t)
+    (line-steady-returns t)
+    (line-steady-routine-steady-requires-2 t)
+    (line-steady-returns-2 t)
+    (line-steady-returns-3 t)
+    (line-steady-returns-4 t)
+    (line-steady-returns-5 t)
+    (line-steady-returns-6 t))
+    λ t. routine-steady-lts.spec (
+      count-reads.Asked,
+      count-reads.Learnt,
+      line-steady-below t,
+      line-steady.Post,
+      routine-steady-below t,
+      routine-steady.Post,
+    )
+    (routine-steady-at t)
+    routine-steady.Post
+    (routine-steady-shared-slice-read-result t)
+    (routine-steady-returns t)
+    (routine-steady-count-requires t)
+    (routine-steady-returns-2 t)
+    (routine-steady-line-steady-requires t)
+    (routine-steady-add-t14 t)
+    (routine-steady-routine-steady-requires t)
+    (routine-steady-returns-3 t)
+    (routine-steady-returns-4 t)
