@@ -1,4 +1,4 @@
--- What C gets of flattening and of a run: the answer field by field, and the bytes of the output or of the registers.
+-- What C gets of flattening, of a run and of the quote: the answer field by field, and the bytes of the output or of the registers.
 -- Any other length than 64 is refused as a run is that is lent no registers; with 64 the page's run is a run of the registers that they say. Assumes nothing.
 use Prim.Native.Nat.{ℕ}
 use mathlib.Core.Bool.{Bool, true, false}
@@ -13,8 +13,9 @@ use Rattle.scope.specs.Book.{two-bytes-each, routines, book-verdict}
 use Rattle.scope.specs.Steps.{register-count, Registers, End}
 use Rattle.scope.specs.Flattening.{flatten-call}
 use Rattle.scope.specs.Running as running
+use Rattle.scope.specs.Quote.{quote-answer}
 use Rattle.scope.specs.Running.{program-of, flat-run, run-verdict, ran, run-call}
-use Rattle.scope.specs.Page.{flatten-fields, page-flatten, registers-length, registers-of, outcome-number, full-register, run-fields, page-run-call, page-run}
+use Rattle.scope.specs.Page.{flatten-fields, page-flatten, registers-length, registers-of, outcome-number, full-register, run-fields, page-run-call, page-run, quote-fields, page-quote}
 use Rattle.scope.proofs.Verdicts.{if-true, if-false, is-not-tells, then-goes-on, then-refuses, refused-exactly-when, accepted-only-where-passed, call-where-passed, refusal-writes-nothing}
 use Rattle.scope.proofs.Lists.{length-listed}
 use Rattle.book.specs.declared.refusals.Refusal.{Refusal}
@@ -26,9 +27,13 @@ use Rattle.unit.specs.declared.machine.Answer.{Answer}
 use Rattle.unit.specs.declared.Ran.{Ran}
 use Rattle.unit.specs.declared.Ran.the-variants.{Done, Refused}
 use Rattle.unit.specs.Told.{outcome-told, answer-told, ran-told}
+use Rattle.quote.specs.declared.Quoted.{Quoted}
+use Rattle.quote.specs.declared.Quoted.the-variants as quoted
+use Rattle.quote.specs.Told.{quoted-told}
 use Rattle.page.specs.declared.answers.FlattenAnswer.{FlattenAnswer}
 use Rattle.page.specs.declared.answers.RunAnswer.{RunAnswer}
-use Rattle.page.specs.Told.{flatten-told, run-told}
+use Rattle.page.specs.declared.answers.QuoteAnswer.{QuoteAnswer}
+use Rattle.page.specs.Told.{flatten-told, run-told, quote-told}
 
 -- ---- flattening
 
@@ -133,3 +138,20 @@ module _ (b bytes : List ℕ) (start budget : ℕ) where
         let kept : rs′ ≡ ended .registers = ap (λ c. c .left) (ran-so ∙ call-where-passed _ _ _ passes) in
         (λ i. record { fields = run-told a; left = (put ∙ ap two-bytes-each kept) i })
         ∙ gets a (call-where-passed _ _ bytes passes) (fields ∙ ap (λ y. run-fields (ran-told y)) e ∙ ap (λ y. run-fields (accepted y)) (sym same))
+
+-- ---- the quote
+
+module _ (r : Quoted) where
+  pub quote-refused : {x : Refusal} (n : ℕ) → r ≡ quoted.Refused x → n ≡ number (name-told (x .name))
+      → quote-told (record { refusal = n; place = x .place; quote = 0 }) ≡ quote-fields (quoted-told r)
+  unfolding quote-told quote-fields quoted-told refusal-told
+  quote-refused n e f = rw (e, f) refl
+
+  pub quote-accepted : {n : ℕ} → r ≡ quoted.Steps n → quote-told (record { refusal = 0; place = 0; quote = n }) ≡ quote-fields (quoted-told r)
+  unfolding quote-told quote-fields quoted-told
+  quote-accepted e = rw e refl
+
+  pub quotes-for-C : (b : List ℕ) (k : ℕ) (a : QuoteAnswer) → quoted-told r ≡ quote-answer b k → quote-told a ≡ quote-fields (quoted-told r)
+      → quote-told a ≡ page-quote b k
+  unfolding page-quote
+  quotes-for-C b k a told fields = fields ∙ ap quote-fields told

@@ -4,9 +4,11 @@ use mathlib.Core.Path.{_≡_, sym, _∙_, ap}
 use denote.Ref.{now}
 use Rattle.page.specs.declared.answers.FlattenAnswer.{FlattenAnswer}
 use Rattle.page.specs.declared.answers.RunAnswer.{RunAnswer}
-use Rattle.page.specs.Told.{flatten-told, run-told}
+use Rattle.page.specs.declared.answers.QuoteAnswer.{QuoteAnswer}
+use Rattle.page.specs.Told.{flatten-told, run-told, quote-told}
 use Rattle.page.proofs.zn_flatten.Reads as zn-flatten
 use Rattle.page.proofs.zn_run.Reads as zn-run
+use Rattle.page.proofs.zn_quote.Reads as zn-quote
 
 flatten-answers-apart : (r r′ : FlattenAnswer) → flatten-told r ≡ flatten-told r′ → r ≡ r′
 unfolding flatten-told
@@ -28,3 +30,10 @@ pub zn-run-once : (κs : _) (a : _) (r r′ : _) (s s′ : _) → zn-run.Learnt 
 zn-run-once κs a r r′ s s′ p q =
     let same = p ∙ sym q in
     (run-answers-apart r r′ (ap (λ c. c .fields) same), ap (λ c. c .left) same)
+
+quote-answers-apart : (r r′ : QuoteAnswer) → quote-told r ≡ quote-told r′ → r ≡ r′
+unfolding quote-told
+quote-answers-apart r r′ e = λ i. record { refusal = e i .refusal; place = e i .place; quote = e i .quote }
+
+pub zn-quote-once : (κs : _) (a : _) (r r′ : _) (s s′ : _) → zn-quote.Learnt κs a r s → zn-quote.Learnt κs a r′ s′ → r ≡ r′
+zn-quote-once κs a r r′ s s′ p q = quote-answers-apart r r′ (p ∙ sym q)

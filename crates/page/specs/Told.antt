@@ -1,8 +1,9 @@
 -- What each answer to C tells: the fields that the definitions of the page's calls give (`Page` of `scope`), one for each of the struct's.
 -- Assumes nothing.
-use Rattle.scope.specs.Page.{Flatten-fields, Run-fields}
+use Rattle.scope.specs.Page.{Flatten-fields, Run-fields, Quote-fields}
 use Rattle.page.specs.declared.answers.FlattenAnswer.{FlattenAnswer}
 use Rattle.page.specs.declared.answers.RunAnswer.{RunAnswer}
+use Rattle.page.specs.declared.answers.QuoteAnswer.{QuoteAnswer}
 
 unfoldable pub flatten-told : FlattenAnswer → Flatten-fields
 flatten-told r = record { refusal = r .refusal; place = r .place; lines = r .lines }
@@ -17,3 +18,6 @@ run-told r =
       steps = r .steps;
       line = r .line;
     }
+
+unfoldable pub quote-told : QuoteAnswer → Quote-fields
+quote-told r = record { refusal = r .refusal; place = r .place; quote = r .quote }

@@ -1,11 +1,13 @@
 // How each answer is laid out for C, field by field.
 ghost use mathlib.Core.Path.{_≡_};
-ghost use Rattle.scope.specs.Page.{flatten-fields, outcome-number, full-register, run-fields};
+ghost use Rattle.scope.specs.Page.{flatten-fields, outcome-number, full-register, run-fields, quote-fields};
 ghost use Rattle.flatten.specs.Told.{flattened-told};
 ghost use Rattle.unit.specs.Told.{outcome-told, ran-told};
-ghost use Rattle.page.specs.Told.{flatten-told, run-told};
+ghost use Rattle.quote.specs.Told.{quoted-told};
+ghost use Rattle.page.specs.Told.{flatten-told, run-told, quote-told};
 use book::refusals::number;
 use flatten::Flattened;
+use quote::Quoted;
 use unit::Ran;
 use unit::machine::Outcome;
 
@@ -25,6 +27,13 @@ pub struct RunAnswer {
     pub register: u16,
     pub steps: u64,
     pub line: usize,
+}
+
+#[repr(C)]
+pub struct QuoteAnswer {
+    pub refusal: u16,
+    pub place: u16,
+    pub quote: u64,
 }
 
 // Flattening's answer.
@@ -98,5 +107,26 @@ pub(crate) fn run_fields(ran: Ran) -> RunAnswer
                 line: line.0,
             }
         }
+    }
+}
+
+// The quote's answer.
+pub(crate) fn quote_fields(quoted: Quoted) -> QuoteAnswer
+    ensures { λ r. ⌜ quote-told r ≡ quote-fields (quoted-told quoted) ⌝ }
+{
+    match quoted {
+        Quoted::Refused(x) => {
+            let name = x.name;
+            QuoteAnswer {
+                refusal: number(name),
+                place: x.place,
+                quote: 0,
+            }
+        }
+        Quoted::Steps(n) => QuoteAnswer {
+            refusal: 0,
+            place: 0,
+            quote: n,
+        },
     }
 }

@@ -5,13 +5,16 @@ mod registers; // registers.rt: 32 registers as 64 bytes
 ghost use mathlib.Core.Path.{_≡_};
 ghost use mathlib.Core.List.{[]};
 ghost use Rattle.scope.specs.Running.{run-call};
-ghost use Rattle.scope.specs.Page.{run-fields, page-flatten, page-run};
-ghost use Rattle.page.specs.Told.{flatten-told, run-told};
+ghost use Rattle.scope.specs.Page.{run-fields, page-flatten, page-run, page-quote};
+ghost use Rattle.page.specs.Told.{flatten-told, run-told, quote-told};
 use answers::FlattenAnswer;
+use answers::QuoteAnswer;
 use answers::RunAnswer;
 use answers::flatten_fields;
+use answers::quote_fields;
 use answers::run_fields;
 use flatten::flatten;
+use quote::quote;
 use registers::REGISTERS_BYTES;
 use registers::put_registers;
 use registers::registers_of;
@@ -52,4 +55,12 @@ pub extern "C" fn zn_run(flat: &[u8], start: usize, regs: &mut [u8], budget: u64
             answer
         }
     }
+}
+
+// Quotes one routine of a book.
+#[no_mangle]
+pub extern "C" fn zn_quote(book: &[u8], routine: usize) -> QuoteAnswer
+    ensures { λ r. ⌜ quote-told r ≡ page-quote (now (book .entry)) routine ⌝ }
+{
+    quote_fields(quote(book, routine))
 }

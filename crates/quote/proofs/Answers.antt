@@ -15,7 +15,7 @@ use Rattle.scope.specs.Flattening.{flat-length, flattens-verdict}
 use Rattle.scope.specs.Quote.{steady, quote, most-quote, quote-answer}
 use Rattle.scope.specs.SteadyWords.{Steady-routine}
 use Rattle.scope.specs.GivenByCalls.{to-flatten-the-book, Flattens, Given-quote, quote-before, quote-NOT-STEADY, quote-QUOTE}
-use Rattle.scope.proofs.Verdicts.{exactly-tells, itself-tells, above-tells, not-tells}
+use Rattle.scope.proofs.Verdicts.{exactly-tells, above-tells}
 use Rattle.scope.proofs.TakenBook.{taken-callees-below}
 use Rattle.scope.proofs.SteadyWords.{steady-exactly}
 use Rattle.scope.proofs.GivenExactlyWhen.{given-exactly-when}
@@ -36,12 +36,7 @@ use Rattle.quote.specs.declared.Quoted.{Quoted}
 use Rattle.quote.specs.declared.Quoted.the-variants.{Steps, Refused}
 use Rattle.quote.specs.Told.{quoted-told}
 use Rattle.quote.specs.Looked.{Looked-below}
-
-so-false : (t : Bool) → not t ≡ true → t ≡ false
-so-false t = not-tells (itself-tells t) .when-true .0
-
-so-true : (t : Bool) → not t ≡ false → t ≡ true
-so-true t = not-tells (itself-tells t) .when-false .0
+use Rattle.quote.proofs.Steadiness.{so-true, so-false}
 
 refused-with : (b : List ℕ) (k : ℕ) (x : Refusal) {y : paper.Refusal} → refusal-told x ≡ y → Given-quote b k y
     → quoted-told (Refused x) ≡ quote-answer b k

@@ -1,7 +1,5 @@
 -- The steady test of lines and routines says what document 01's does: line by line, and of a routine below the mark by the row.
--- A routine is steady if its lines are; each line by its kind. The routine number falls, then the lines left. Assumes nothing.
-use mir.Syntax.{w16}
-use mir.Val.{Fits}
+-- A routine is steady if its lines are; each line by its kind. From a line to its routine the number falls. Assumes nothing.
 use Prim.Native.Nat.{ℕ, suc, _+_, _*_, _-_, _<_, _≤_}
 use native.Mathlib.Omega.{arith}
 use native.Mathlib.Numerals.{add-one}
@@ -10,9 +8,9 @@ use mathlib.Core.Path.{_≡_, refl, sym, _∙_, ap}
 use mathlib.Core.List.{List, [], _∷_}
 use lib.ListN.{length, getD, set, drop, drop-of-length-le}
 use Rattle.scope.specs.Words.{if, _and_}
-use Rattle.scope.specs.Book as book
 use Rattle.scope.specs.Book.{most-routines, most-lines, routines, count, line-of, fields-in, routine, book-of}
 use Rattle.scope.specs.Quote.{named, line-steady, lines-steady, steady-by, steady}
+use Rattle.scope.proofs.Verdicts.{itself-tells, not-tells}
 use Rattle.scope.proofs.Lowest.{steady-by-the-rule}
 use Rattle.scope.proofs.TakenBook.{taken-book, taken-callees-below, line-in-the-book, routine-in-the-book, length-routine-of}
 use Rattle.book.specs.declared.header.Counts.{Counts}
@@ -25,7 +23,13 @@ use Rattle.book.proofs.Scanned.{below-R}
 use Rattle.book.proofs.Fits.{CALL-below, REPEAT-below}
 use Rattle.flatten.proofs.Rows.{empty-row, one-more-routine}
 use Rattle.quote.specs.Naming.{bit, Masks}
-use Rattle.quote.specs.Steadiness.{Tested, Whole-below}
+use Rattle.quote.specs.Steadiness.{Tested}
+
+pub so-true : (x : Bool) → not x ≡ false → x ≡ true
+so-true x = not-tells (itself-tells x) .when-false .0
+
+pub so-false : (x : Bool) → not x ≡ true → x ≡ false
+so-false x = not-tells (itself-tells x) .when-true .0
 
 and-true : (x : Bool) → (x and true) ≡ x
 unfolding if
@@ -37,15 +41,9 @@ unfolding if
 and-false true = refl
 and-false false = refl
 
--- What falls: the routine number, then the lines left. A line's test comes before the test of what is left of its routine.
-unfoldable pub lines-left : (k j : ℕ) → ℕ
-lines-left k j = 2 * (k * (most-lines + 1) + (most-lines - j))
-
-pub from-line-0 : (mark k : ℕ) → Whole-below mark k 0
-from-line-0 mark k = record { from-line-0 = λ h. refl }
-
-pub not-below : (mark k j : ℕ) → mark ≤ k → Whole-below mark k j
-not-below mark k j h = record { from-line-0 = λ g. absurd (omega (arith, h, g)) }
+-- From a routine to its lines the number stays, and the line's test comes first.
+pub line-falls : (k m : ℕ) → 2 * k + 1 ≡ m → 2 * k < m
+line-falls k m f = omega (arith, f)
 
 -- ---- a line
 
@@ -58,11 +56,6 @@ module _ (b : List ℕ) (c : Counts) (l : Line) (k j : ℕ) (t : Taken-with b c)
   pub said-of-the-line : (r : Bool) {m : Line} → l ≡ m → r ≡ line-steady (named (book-of b)) (steady (book-of b)) j (line-told m) → r ≡ of-this-line
   said-of-the-line r d g = g ∙ ap (line-steady (named (book-of b)) (steady (book-of b)) j) (ap line-told (sym d) ∙ e)
 
-  steady-if-its-lines-are : {r : Bool} (q : ℕ) → r ≡ lines-steady (named (book-of b)) (steady (book-of b)) 0 (drop 0 (routine (book-of b) q))
-      → r ≡ steady (book-of b) q
-  unfolding steady steady-by
-  steady-if-its-lines-are q g = g ∙ sym (steady-by-the-rule (book-of b) (taken-callees-below b (t .taken)) (named (book-of b)) q)
-
   -- A line that calls is steady if the routine is.
   module _ {q : ℕ} (d : l ≡ line.Call q) where
     low : q < k
@@ -71,13 +64,8 @@ module _ (b : List ℕ) (c : Counts) (l : Line) (k j : ℕ) (t : Taken-with b c)
     pub CALL-there : q < c .routines
     CALL-there = omega (arith, low, h)
 
-    pub CALL-falls : (m : ℕ) → lines-left k j ≡ m → lines-left q 0 + 1 < m
-    unfolding lines-left
+    pub CALL-falls : (m : ℕ) → 2 * k ≡ m → 2 * q + 1 < m
     CALL-falls m f = omega (arith, low, f)
-
-    pub CALL-steady : (r : Bool) → r ≡ lines-steady (named (book-of b)) (steady (book-of b)) 0 (drop 0 (routine (book-of b) q)) → r ≡ of-this-line
-    unfolding line-steady line-told
-    CALL-steady r g = said-of-the-line r d (steady-if-its-lines-are q g)
 
   -- A REPEAT line also needs that its register is not named ..
   module _ {g : Reg} {q : ℕ} (d : l ≡ line.Repeat g q) where
@@ -87,8 +75,7 @@ module _ (b : List ℕ) (c : Counts) (l : Line) (k j : ℕ) (t : Taken-with b c)
     pub REPEAT-there : q < c .routines
     REPEAT-there = omega (arith, lower, h)
 
-    pub REPEAT-falls : (m : ℕ) → lines-left k j ≡ m → lines-left q 0 + 1 < m
-    unfolding lines-left
+    pub REPEAT-falls : (m : ℕ) → 2 * k ≡ m → 2 * q + 1 < m
     REPEAT-falls m f = omega (arith, lower, f)
 
     module _ (masks : List ℕ) (w : Masks b (c .routines) masks) where
@@ -103,17 +90,18 @@ module _ (b : List ℕ) (c : Counts) (l : Line) (k j : ℕ) (t : Taken-with b c)
         unfolding line-steady line-told
         REPEAT-of-a-named f = said-of-the-line false d (rw (its-register f) (sym (and-false (steady (book-of b) q))))
 
-        pub REPEAT-steady : marked ≡ false → (r : Bool)
-            → r ≡ lines-steady (named (book-of b)) (steady (book-of b)) 0 (drop 0 (routine (book-of b) q)) → r ≡ of-this-line
+        pub REPEAT-steady : marked ≡ false → (r : Bool) → r ≡ steady (book-of b) q → r ≡ of-this-line
         unfolding line-steady line-told
-        REPEAT-steady f r y = said-of-the-line r d (rw (its-register f) (steady-if-its-lines-are q y ∙ sym (and-true (steady (book-of b) q))))
+        REPEAT-steady f r y = said-of-the-line r d (rw (its-register f) (y ∙ sym (and-true (steady (book-of b) q))))
 
--- ---- a routine, from line j on
+-- ---- a routine
 
-module _ (b : List ℕ) (c : Counts) (t : Taken-with b c) (k j : ℕ) (h : k < c .routines) where
-  abbrev from-this-line : Bool
-  from-this-line = lines-steady (named (book-of b)) (steady (book-of b)) j (drop j (routine (book-of b) k))
+-- The first j of routine k's n lines are steady: those left decide.
+pub record Steady-to (b : List ℕ) (k n j : ℕ) : Type 0 where
+  pub upto : j ≤ n
+  pub rest-decides : steady (book-of b) k ≡ lines-steady (named (book-of b)) (steady (book-of b)) j (drop j (routine (book-of b) k))
 
+module _ (b : List ℕ) (c : Counts) (t : Taken-with b c) (k : ℕ) (h : k < c .routines) where
   here : k < routines b
   here = below-R k (t .tabled .sized) h
 
@@ -121,52 +109,44 @@ module _ (b : List ℕ) (c : Counts) (t : Taken-with b c) (k j : ℕ) (h : k < c
     pub routine-has-an-answer : k < length tested
     routine-has-an-answer = omega (arith, h, w .long, t .tabled .sized .routines-to-32)
 
-    pub answer-in-the-row : Whole-below mark k j → k < mark → getD tested k false ≡ from-this-line
-    unfolding steady steady-by
-    answer-in-the-row f g =
-        let first : j ≡ 0 = f .from-line-0 g in
-        rw first (w .each k g ∙ steady-by-the-rule (book-of b) (taken-callees-below b (t .taken)) (named (book-of b)) k)
+    pub answer-in-the-row : k < mark → getD tested k false ≡ steady (book-of b) k
+    answer-in-the-row g = w .each k g
 
   module _ (n : ℕ) (size : n ≡ count b k) where
-    pub no-line-left : n ≤ j → true ≡ from-this-line
-    unfolding lines-steady
-    no-line-left g =
-        let none : drop j (routine (book-of b) k) ≡ [] =
-        drop-of-length-le (routine (book-of b) k) {i = j} (omega (arith, g, size, ap length (routine-in-the-book b k here), length-routine-of b k)) in
-        rw none refl
+    pub all-lines-left : Steady-to b k n 0
+    unfolding steady steady-by
+    all-lines-left =
+        record {
+          upto = omega arith;
+          rest-decides = steady-by-the-rule (book-of b) (taken-callees-below b (t .taken)) (named (book-of b)) k;
+        }
 
-    module _ (more : j < n) where
-      line-there : j < count b k
-      line-there = omega (arith, more, size)
-
-      few : n ≤ most-lines
-      few = let T = taken-book b (t .taken) in omega (arith, size, T .ends-within k here, T .header .lines-to-4096)
-
-      pub line-falls : (m : ℕ) → lines-left k j + 1 ≡ m → lines-left k j < m
-      line-falls m f = omega (arith, f)
-
-      pub next-falls : (m : ℕ) → lines-left k j + 1 ≡ m → lines-left k (j + 1) + 1 < m
-      unfolding lines-left
-      next-falls m f = omega (arith, f, few, more)
-
-      pub next-line-fits : Fits w16 (j + 1)
-      next-line-fits = record { fits = omega (arith, few, more) }
-
-      by-its-first : from-this-line
-          ≡ (line-steady (named (book-of b)) (steady (book-of b)) j (line-of (fields-in b k j))
-          and lines-steady (named (book-of b)) (steady (book-of b)) (suc j) (drop (suc j) (routine (book-of b) k)))
+    module _ (j : ℕ) (s : Steady-to b k n j) where
+      pub no-line-left : n ≤ j → true ≡ steady (book-of b) k
       unfolding lines-steady
-      by-its-first = ap (lines-steady (named (book-of b)) (steady (book-of b)) j) (line-in-the-book b k j here line-there)
+      no-line-left g =
+          let none : drop j (routine (book-of b) k) ≡ [] =
+          drop-of-length-le (routine (book-of b) k) {i = j} (omega (arith, g, size, ap length (routine-in-the-book b k here), length-routine-of b k)) in
+          sym (rw none at (s .rest-decides))
 
-      module _ (first : Bool) (tests : first ≡ line-steady (named (book-of b)) (steady (book-of b)) j (line-of (fields-in b k j))) where
-        pub rest-decides : (r : Bool) → first ≡ true
-            → r ≡ lines-steady (named (book-of b)) (steady (book-of b)) (j + 1) (drop (j + 1) (routine (book-of b) k)) → r ≡ from-this-line
-        unfolding if
-        rest-decides r f g = rw (by-its-first, sym tests, f) (rw (add-one j) at g)
+      module _ (more : j < n) (first : Bool) (tests : first ≡ line-steady (named (book-of b)) (steady (book-of b)) j (line-of (fields-in b k j))) where
+        by-the-line : steady (book-of b) k
+            ≡ (first and lines-steady (named (book-of b)) (steady (book-of b)) (suc j) (drop (suc j) (routine (book-of b) k)))
+        unfolding lines-steady
+        by-the-line =
+            rw tests
+            (s .rest-decides
+            ∙ ap (lines-steady (named (book-of b)) (steady (book-of b)) j) (line-in-the-book b k j here (omega (arith, more, size))))
 
-        pub line-decides : first ≡ false → false ≡ from-this-line
+        pub one-more-steady : not first ≡ false → Steady-to b k n (j + 1)
         unfolding if
-        line-decides f = rw (by-its-first, sym tests, f) refl
+        one-more-steady f =
+            let so : first ≡ true = so-true first f in
+            record { upto = omega (arith, more); rest-decides = rw (add-one j) (rw so at by-the-line) }
+
+        pub an-unsteady-line : not first ≡ true → false ≡ steady (book-of b) k
+        unfolding if
+        an-unsteady-line f = let so : first ≡ false = so-false first f in sym (rw so at by-the-line)
 
 -- ---- the row
 
@@ -183,19 +163,13 @@ module _ (b : List ℕ) (c : Counts) (t : Taken-with b c) (routine k : ℕ) (h :
   pub routine-there : k ≤ routine → k < c .routines
   routine-there g = omega (arith, g, h)
 
-  pub one-more-answer : (r : Bool) → k ≤ routine
-      → r ≡ lines-steady (named (book-of b)) (steady (book-of b)) 0 (drop 0 (book.routine (book-of b) k)) → Tested-to b routine (k + 1) (set tested k r)
-  unfolding steady steady-by
+  pub one-more-answer : (r : Bool) → k ≤ routine → r ≡ steady (book-of b) k → Tested-to b routine (k + 1) (set tested k r)
   one-more-answer r g e =
       record {
         upto = omega (arith, g);
         answers =
-            one-more-routine false _ tested k r (s .answers) (omega (arith, g, h, t .tabled .sized .routines-to-32))
-            (e ∙ sym (steady-by-the-rule (book-of b) (taken-callees-below b (t .taken)) (named (book-of b)) k));
+            one-more-routine false _ tested k r (s .answers) (omega (arith, g, h, t .tabled .sized .routines-to-32)) e;
       }
-
-  pub answer-there : routine < length tested
-  answer-there = omega (arith, h, s .answers .long, t .tabled .sized .routines-to-32)
 
   pub answer-is : routine < k → getD tested routine false ≡ steady (book-of b) routine
   answer-is g = s .answers .each routine g

@@ -1,12 +1,11 @@
 // Which routines are steady. Each line is tested once: from the lowest routine up a row keeps the answers.
 ghost use mathlib.Core.Path.{_≡_};
-ghost use Prim.Native.Nat.{_<_, _≤_};
-ghost use lib.ListN.{drop};
-ghost use Rattle.scope.specs.Book.{routines, count, line-of, fields-in, routine, book-of};
-ghost use Rattle.scope.specs.Quote.{named, line-steady, lines-steady, steady};
+ghost use Prim.Native.Nat.{_<_};
+ghost use Rattle.scope.specs.Book.{count, line-of, fields-in, book-of};
+ghost use Rattle.scope.specs.Quote.{named, line-steady, steady};
 ghost use Rattle.book.specs.Asked.{Taken-with};
 ghost use Rattle.quote.specs.Naming.{Masks};
-ghost use Rattle.quote.specs.Steadiness.{Tested, Whole-below};
+ghost use Rattle.quote.specs.Steadiness.{Tested};
 use super::naming::has;
 use book::header::Counts;
 use book::lines::Line;
@@ -38,17 +37,17 @@ fn line_steady(
         Line::Inc(_) => true,
         Line::Dec(_, t) => j.0 < t.0,
         Line::GoTo(t) => j.0 < t.0,
-        Line::Call(c) => { routine_steady(b, counts, masks, tested, mark, c, RoutineLine(0)) }
+        Line::Call(c) => { routine_steady(b, counts, masks, tested, mark, c) }
         Line::Repeat(r, c) => {
             if has(masks[c as usize], r) {
                 return false;
             }
-            routine_steady(b, counts, masks, tested, mark, c, RoutineLine(0))
+            routine_steady(b, counts, masks, tested, mark, c)
         }
     }
 }
 
-// A routine is steady if its lines are: here from line j on. One below the mark is in the row.
+// A routine is steady if its lines are. One below the mark is in the row.
 fn routine_steady(
     b: &[u8],
     counts: Counts,
@@ -56,25 +55,25 @@ fn routine_steady(
     tested: &[bool],
     mark: u16,
     k: u16,
-    j: RoutineLine,
 ) -> bool
     requires { ⌜ Taken-with (now b) counts ⌝ }
     requires { ⌜ Masks (now b) (counts .routines) (now masks) ⌝ }
     requires { ⌜ Tested (now b) mark (now tested) ⌝ }
     requires { ⌜ k < counts .routines ⌝ }
-    requires { ⌜ Whole-below mark k (j .0) ⌝ }
-    ensures { λ r. ⌜ r ≡ lines-steady (named (book-of (now (b .entry)))) (steady (book-of (now (b .entry)))) (j .0) (drop (j .0) (routine (book-of (now (b .entry))) k)) ⌝ }
+    ensures { λ r. ⌜ r ≡ steady (book-of (now (b .entry))) k ⌝ }
 {
     if k < mark {
         return tested[k as usize];
     }
-    if count(b, k) <= j.0 {
-        return true;
+    let n = count(b, k);
+    let mut j: u16 = 0;
+    while j < n {
+        if !line_steady(b, counts, masks, tested, mark, k, RoutineLine(j)) {
+            return false;
+        }
+        j += 1;
     }
-    if line_steady(b, counts, masks, tested, mark, k, j) {
-        return routine_steady(b, counts, masks, tested, mark, k, RoutineLine(j.0 + 1));
-    }
-    false
+    true
 }
 
 // The test, over a row from the lowest routine up to the asked one.
@@ -87,7 +86,7 @@ pub(crate) fn is_steady(b: &[u8], counts: Counts, masks: &[u32], routine: u16) -
     let mut tested = [false; ROW];
     let mut k: u16 = 0;
     while k <= routine {
-        let answer = routine_steady(b, counts, masks, &tested, k, k, RoutineLine(0));
+        let answer = routine_steady(b, counts, masks, &tested, k, k);
         tested[k as usize] = answer;
         k += 1;
     }

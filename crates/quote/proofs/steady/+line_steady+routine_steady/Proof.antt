@@ -1,6 +1,6 @@
--- `steady::line_steady` and `steady::routine_steady` tell whether a line, and a routine from a line on, are steady.
--- The routine number falls, then the lines left (`lines-left`); a routine below the mark is looked up. Assumes nothing.
-use Prim.Native.Nat.{ℕ, _+_, _<_}
+-- `steady::line_steady` and `steady::routine_steady` tell whether a line and a routine are steady.
+-- The routine number falls, then in the loop the lines left (`Steady-to`); a routine below the mark is looked up. Assumes nothing.
+use Prim.Native.Nat.{ℕ, _+_, _*_, _-_, _<_}
 use borrow.Fn.Kinds.{In}
 use borrow.Fn.PlainCycle.{Measures, is, falls, and}
 use Rattle.quote.proofs.steady.line_steady.Reads as line-steady
@@ -19,13 +19,13 @@ use Rattle.scope.specs.Quote as paper
 use Rattle.book.specs.Told.{line-told}
 use Rattle.book.proofs.Fits.{REPEAT-register}
 use Rattle.flatten.proofs.Rows.{line-is-there}
-use Rattle.quote.proofs.Steadiness.{lines-left, from-line-0, not-below, said-of-the-line, CALL-there, CALL-falls, CALL-steady, REPEAT-there, REPEAT-falls, REPEAT-has-a-mask, REPEAT-of-a-named, REPEAT-steady, routine-has-an-answer, answer-in-the-row, no-line-left, line-falls, next-falls, next-line-fits, rest-decides, line-decides}
+use Rattle.quote.proofs.Steadiness.{said-of-the-line, CALL-there, CALL-falls, REPEAT-there, REPEAT-falls, REPEAT-has-a-mask, REPEAT-of-a-named, REPEAT-steady, Steady-to, routine-has-an-answer, answer-in-the-row, line-falls, all-lines-left, no-line-left, one-more-steady, an-unsteady-line}
 
 abbrev μ-line-steady : Measures 3 line-steady-kinds.ps ℕ
-μ-line-steady κs a = lines-left (a .1 .1 .1 .1 .1 .0) (a .1 .1 .1 .1 .1 .1 .0 .0)
+μ-line-steady κs a = 2 * a .1 .1 .1 .1 .1 .0
 
 abbrev μ-routine-steady : Measures 3 routine-steady-kinds.ps ℕ
-μ-routine-steady κs a = lines-left (a .1 .1 .1 .1 .1 .0) (a .1 .1 .1 .1 .1 .1 .0 .0) + 1
+μ-routine-steady κs a = 2 * a .1 .1 .1 .1 .1 .0 + 1
 
 abbrev line-steady-at : ℕ → In 3 line-steady-kinds.ps
 line-steady-at t =
@@ -109,7 +109,7 @@ line-steady-routine-steady-requires : (t : ℕ) → line-steady-lts.Need-routine
   has-reads.Asked,
   has-reads.Learnt,
 ) (line-steady-at t) line-steady.Post
-line-steady-routine-steady-requires t c κs = (search CALL-falls, (search needs, (search needs, (search needs, (search CALL-there, search from-line-0)))))
+line-steady-routine-steady-requires t c κs = (search CALL-falls, (search needs, (search needs, (search needs, search CALL-there))))
 
 line-steady-enum-known-line-4 : (t : ℕ) → line-steady-lts.Need-enum-known-line-4 (
   line-at-reads.Asked,
@@ -179,7 +179,7 @@ line-steady-routine-steady-requires-2 : (t : ℕ) → line-steady-lts.Need-routi
   has-reads.Asked,
   has-reads.Learnt,
 ) (line-steady-at t) line-steady.Post
-line-steady-routine-steady-requires-2 t c κs = (search REPEAT-falls, (search needs, (search needs, (search needs, (search REPEAT-there, search from-line-0)))))
+line-steady-routine-steady-requires-2 t c κs = (search REPEAT-falls, (search needs, (search needs, (search needs, search REPEAT-there))))
 
 line-steady-returns-2 : (t : ℕ) → line-steady-lts.Need-returns-2 (
   line-at-reads.Asked,
@@ -222,7 +222,8 @@ line-steady-returns-5 : (t : ℕ) → line-steady-lts.Need-returns-5 (
   has-reads.Asked,
   has-reads.Learnt,
 ) (line-steady-at t) line-steady.Post
-line-steady-returns-5 t c = search CALL-steady
+unfolding paper.line-steady line-told
+line-steady-returns-5 t c = search said-of-the-line
 
 line-steady-returns-6 : (t : ℕ) → line-steady-lts.Need-returns-6 (
   line-at-reads.Asked,
@@ -234,15 +235,19 @@ line-steady-returns-6 : (t : ℕ) → line-steady-lts.Need-returns-6 (
 ) (line-steady-at t) line-steady.Post
 line-steady-returns-6 t c = search REPEAT-steady
 
+abbrev routine-steady-Inv-loop : routine-steady-lts.InvT-loop
+routine-steady-Inv-loop b counts masks tested mark k n j₀ j = Steady-to b k n j
+
+abbrev routine-steady-μ-loop : routine-steady-lts.MeasureT-loop
+routine-steady-μ-loop b counts masks tested mark k n j₀ j = n - j
+
 routine-steady-shared-slice-read-result :
     (t : ℕ) → routine-steady-lts.Need-shared-slice-read-result (
       count-reads.Asked,
       count-reads.Learnt,
       line-steady-below t,
       line-steady.Post,
-      routine-steady-below t,
-      routine-steady.Post,
-    ) (routine-steady-at t) routine-steady.Post
+    ) (routine-steady-at t) routine-steady.Post routine-steady-Inv-loop routine-steady-μ-loop
 routine-steady-shared-slice-read-result t c = search routine-has-an-answer
 
 routine-steady-returns : (t : ℕ) → routine-steady-lts.Need-returns (
@@ -250,9 +255,7 @@ routine-steady-returns : (t : ℕ) → routine-steady-lts.Need-returns (
   count-reads.Learnt,
   line-steady-below t,
   line-steady.Post,
-  routine-steady-below t,
-  routine-steady.Post,
-) (routine-steady-at t) routine-steady.Post
+) (routine-steady-at t) routine-steady.Post routine-steady-Inv-loop routine-steady-μ-loop
 routine-steady-returns t c = search answer-in-the-row
 
 routine-steady-count-requires : (t : ℕ) → routine-steady-lts.Need-count-requires (
@@ -260,70 +263,64 @@ routine-steady-count-requires : (t : ℕ) → routine-steady-lts.Need-count-requ
   count-reads.Learnt,
   line-steady-below t,
   line-steady.Post,
-  routine-steady-below t,
-  routine-steady.Post,
-) (routine-steady-at t) routine-steady.Post
+) (routine-steady-at t) routine-steady.Post routine-steady-Inv-loop routine-steady-μ-loop
 routine-steady-count-requires t c κs = search needs
 
-routine-steady-returns-2 : (t : ℕ) → routine-steady-lts.Need-returns-2 (
+routine-steady-loop-holds : (t : ℕ) → routine-steady-lts.Need-loop-holds (
   count-reads.Asked,
   count-reads.Learnt,
   line-steady-below t,
   line-steady.Post,
-  routine-steady-below t,
-  routine-steady.Post,
-) (routine-steady-at t) routine-steady.Post
-routine-steady-returns-2 t c = search no-line-left
+) (routine-steady-at t) routine-steady.Post routine-steady-Inv-loop routine-steady-μ-loop
+routine-steady-loop-holds t c = search all-lines-left
 
 routine-steady-line-steady-requires : (t : ℕ) → routine-steady-lts.Need-line-steady-requires (
   count-reads.Asked,
   count-reads.Learnt,
   line-steady-below t,
   line-steady.Post,
-  routine-steady-below t,
-  routine-steady.Post,
-) (routine-steady-at t) routine-steady.Post
-routine-steady-line-steady-requires t c κs = (search line-falls, (search needs, (search needs, (search needs, (search needs, line-is-there _ _ _ _ (c .before .before .count .ensures) (c .if2 .left))))))
+) (routine-steady-at t) routine-steady.Post routine-steady-Inv-loop routine-steady-μ-loop
+routine-steady-line-steady-requires t c κs = (search line-falls, (search needs, (search needs, (search needs, (search needs, search line-is-there)))))
 
-routine-steady-add-t14 : (t : ℕ) → routine-steady-lts.Need-add-t14 (
+routine-steady-returns-2 : (t : ℕ) → routine-steady-lts.Need-returns-2 (
   count-reads.Asked,
   count-reads.Learnt,
   line-steady-below t,
   line-steady.Post,
-  routine-steady-below t,
-  routine-steady.Post,
-) (routine-steady-at t) routine-steady.Post
-routine-steady-add-t14 t c = search next-line-fits
+) (routine-steady-at t) routine-steady.Post routine-steady-Inv-loop routine-steady-μ-loop
+routine-steady-returns-2 t c = search an-unsteady-line
 
-routine-steady-routine-steady-requires : (t : ℕ) → routine-steady-lts.Need-routine-steady-requires (
+routine-steady-add-j : (t : ℕ) → routine-steady-lts.Need-add-j (
   count-reads.Asked,
   count-reads.Learnt,
   line-steady-below t,
   line-steady.Post,
-  routine-steady-below t,
-  routine-steady.Post,
-) (routine-steady-at t) routine-steady.Post
-routine-steady-routine-steady-requires t c κs = (search next-falls, (search needs, (search needs, (search needs, (search needs, search not-below)))))
+) (routine-steady-at t) routine-steady.Post routine-steady-Inv-loop routine-steady-μ-loop
+routine-steady-add-j t c = search needs
+
+routine-steady-loop-less : (t : ℕ) → routine-steady-lts.Need-loop-less (
+  count-reads.Asked,
+  count-reads.Learnt,
+  line-steady-below t,
+  line-steady.Post,
+) (routine-steady-at t) routine-steady.Post routine-steady-Inv-loop routine-steady-μ-loop
+routine-steady-loop-less t c = search needs
+
+routine-steady-loop-again : (t : ℕ) → routine-steady-lts.Need-loop-again (
+  count-reads.Asked,
+  count-reads.Learnt,
+  line-steady-below t,
+  line-steady.Post,
+) (routine-steady-at t) routine-steady.Post routine-steady-Inv-loop routine-steady-μ-loop
+routine-steady-loop-again t c = search one-more-steady
 
 routine-steady-returns-3 : (t : ℕ) → routine-steady-lts.Need-returns-3 (
   count-reads.Asked,
   count-reads.Learnt,
   line-steady-below t,
   line-steady.Post,
-  routine-steady-below t,
-  routine-steady.Post,
-) (routine-steady-at t) routine-steady.Post
-routine-steady-returns-3 t c = search rest-decides
-
-routine-steady-returns-4 : (t : ℕ) → routine-steady-lts.Need-returns-4 (
-  count-reads.Asked,
-  count-reads.Learnt,
-  line-steady-below t,
-  line-steady.Post,
-  routine-steady-below t,
-  routine-steady.Post,
-) (routine-steady-at t) routine-steady.Post
-routine-steady-returns-4 t c = search line-decides
+) (routine-steady-at t) routine-steady.Post routine-steady-Inv-loop routine-steady-μ-loop
+routine-steady-returns-3 t c = search no-line-left
 
 pub +line-steady+routine-steady-spec : {M : Type 1} → statement M
 +line-steady+routine-steady-spec = close μ-line-steady μ-routine-steady (λ t. line-steady-lts.spec (
@@ -354,22 +351,19 @@ pub +line-steady+routine-steady-spec : {M : Type 1} → statement M
     (line-steady-returns-4 t)
     (line-steady-returns-5 t)
     (line-steady-returns-6 t))
-    λ t. routine-steady-lts.spec (
-      count-reads.Asked,
-      count-reads.Learnt,
-      line-steady-below t,
-      line-steady.Post,
-      routine-steady-below t,
-      routine-steady.Post,
-    )
+    λ t. routine-steady-lts.spec
+    (count-reads.Asked, count-reads.Learnt, line-steady-below t, line-steady.Post)
     (routine-steady-at t)
     routine-steady.Post
+    routine-steady-Inv-loop
+    routine-steady-μ-loop
     (routine-steady-shared-slice-read-result t)
     (routine-steady-returns t)
     (routine-steady-count-requires t)
-    (routine-steady-returns-2 t)
+    (routine-steady-loop-holds t)
     (routine-steady-line-steady-requires t)
-    (routine-steady-add-t14 t)
-    (routine-steady-routine-steady-requires t)
+    (routine-steady-returns-2 t)
+    (routine-steady-add-j t)
+    (routine-steady-loop-less t)
+    (routine-steady-loop-again t)
     (routine-steady-returns-3 t)
-    (routine-steady-returns-4 t)

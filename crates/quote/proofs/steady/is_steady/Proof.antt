@@ -4,7 +4,7 @@ use Rattle.quote.proofs.steady.is_steady.Statement.{statement}
 use Rattle.quote.proofs.steady.is_steady.Tie as tie
 use borrow.Author.Needs.{needs}
 use Prim.Native.Nat.{_+_, _-_}
-use Rattle.quote.proofs.Steadiness.{from-line-0, Tested-to, no-answer-yet, routine-there, one-more-answer, answer-is}
+use Rattle.quote.proofs.Steadiness.{Tested-to, no-answer-yet, routine-there, one-more-answer, answer-is}
 
 abbrev Inv-loop : tie.InvT-loop
 Inv-loop b counts masks routine tested₀ k₀ tested k = Tested-to b routine k tested
@@ -19,7 +19,7 @@ slice-aggregate-routine-steady : tie.Need-slice-aggregate-routine-steady Inv-loo
 slice-aggregate-routine-steady c = search needs
 
 routine-steady-requires : tie.Need-routine-steady-requires Inv-loop μ-loop
-routine-steady-requires c κs = (search needs, (search needs, (search needs, (search routine-there, search from-line-0))))
+routine-steady-requires c κs = (search needs, (search needs, (search needs, search routine-there)))
 
 cast-tested : tie.Need-cast-tested Inv-loop μ-loop
 cast-tested c = search needs
