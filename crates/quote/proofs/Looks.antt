@@ -41,14 +41,14 @@ pub record Looking (b : List ℕ) (k n j size mask : ℕ) (sum : Sum) : Type 0 w
   pub names : Marks (named-to b k j) mask
   pub quotes : Keeps (quoted-to b k j) (sum .number) (sum .over)
 
-pub nothing-looked-at : (b : List ℕ) (k n : ℕ) → Looking b k n 0 0 0 (record { number = 0; over = false })
+pub nothing-looked-at : (b : List ℕ) (k n number : ℕ) → number ≡ 0 → Looking b k n 0 0 0 (record { number = number; over = false })
 unfolding quoted-to sum-of
-nothing-looked-at b k n =
+nothing-looked-at b k n number e =
     record {
       upto = omega arith;
       starts-at = rw (first-start (book-of b) k) refl;
       names = nothing-named b k;
-      quotes = a-number-is-kept 0 (record { fits = omega arith });
+      quotes = rw e (a-number-is-kept 0 (record { fits = omega arith }));
     }
 
 module _ (b : List ℕ) (c : Counts) (k n : ℕ) (t : Taken-with b c) (h : k < c .routines) (size : n ≡ count b k) where
@@ -104,16 +104,16 @@ module _ (b : List ℕ) (R : ℕ) (lengths masks numbers : List ℕ) (overs : Li
       }
 
   module _ (c : Counts) (t : Taken-with b c) (same : R ≡ c .routines) (k : ℕ) (s : Rows-to b R k lengths masks numbers overs) where
-    pub one-more-looked-at : (x : Looked) → k < R → Looked-at b k x
-        → Rows-to b R (k + 1) (set lengths k (x .length)) (set masks k (x .mask)) (set numbers k (x .number)) (set overs k (x .over))
-    one-more-looked-at x h l =
+    pub one-more-looked-at : (x : Looked) (number : ℕ) → k < R → Looked-at b k x → number ≡ x .number
+        → Rows-to b R (k + 1) (set lengths k (x .length)) (set masks k (x .mask)) (set numbers k number) (set overs k (x .over))
+    one-more-looked-at x number h l e =
         let low : k < most-routines = omega (arith, h, same, t .tabled .sized .routines-to-32) in
         record {
           upto = omega (arith, h);
           below = record {
             lengths-are = one-more-routine 0 _ lengths k (x .length) (s .below .lengths-are) low (l .length-is);
             masks-are = one-more-routine 0 _ masks k (x .mask) (s .below .masks-are) low (l .mask-is);
-            numbers-are = one-more-routine 0 _ numbers k (x .number) (s .below .numbers-are) low (l .quote-is .else-the-number);
+            numbers-are = one-more-routine 0 _ numbers k number (s .below .numbers-are) low (λ f. e ∙ l .quote-is .else-the-number f);
             overs-are = one-more-routine false _ overs k (x .over) (s .below .overs-are) low (l .quote-is .over-exactly);
           };
         }

@@ -63,9 +63,10 @@ module _ (b : List ℕ) (c : Counts) (l : Line) (k j : ℕ) (t : Taken-with b c)
     unfolding line-names names used line-told if
     CALL-marked d = so-named d (CALL-looked-up b c l k j t h s e 0 _ masks w d) (λ q. refl)
 
-    pub REPEAT-marked : (mask : ℕ) {g : Reg} {q : ℕ} → l ≡ line.Repeat g q → Marks (λ i. g .0 is i) mask → Marked (bitOr mask (getD masks q 0))
+    pub REPEAT-marked : (mask both : ℕ) {g : Reg} {q : ℕ} → l ≡ line.Repeat g q → Marks (λ i. g .0 is i) mask
+        → both ≡ bitOr mask (getD masks q 0) → Marked both
     unfolding line-names names used line-told
-    REPEAT-marked mask d p = so-named d (either-marked p (REPEAT-looked-up b c l k j t h s e 0 _ masks w d)) (λ q. refl)
+    REPEAT-marked mask both d p f = rw f (so-named d (either-marked p (REPEAT-looked-up b c l k j t h s e 0 _ masks w d)) (λ q. refl))
 
 -- ---- a routine
 

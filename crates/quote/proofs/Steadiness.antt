@@ -41,8 +41,11 @@ unfolding if
 and-false true = refl
 and-false false = refl
 
--- From a routine to its lines the number stays, and the line's test comes first.
-pub line-falls : (k m : ℕ) → 2 * k + 1 ≡ m → 2 * k < m
+-- From a routine to its lines and to each of them the number stays, and the test of less comes first.
+pub lines-fall : (k m : ℕ) → 3 * k + 2 ≡ m → 3 * k + 1 < m
+lines-fall k m f = omega (arith, f)
+
+pub line-falls : (k m : ℕ) → 3 * k + 1 ≡ m → 3 * k < m
 line-falls k m f = omega (arith, f)
 
 -- ---- a line
@@ -64,7 +67,7 @@ module _ (b : List ℕ) (c : Counts) (l : Line) (k j : ℕ) (t : Taken-with b c)
     pub CALL-there : q < c .routines
     CALL-there = omega (arith, low, h)
 
-    pub CALL-falls : (m : ℕ) → 2 * k ≡ m → 2 * q + 1 < m
+    pub CALL-falls : (m : ℕ) → 3 * k ≡ m → 3 * q + 2 < m
     CALL-falls m f = omega (arith, low, f)
 
   -- A REPEAT line also needs that its register is not named ..
@@ -75,7 +78,7 @@ module _ (b : List ℕ) (c : Counts) (l : Line) (k j : ℕ) (t : Taken-with b c)
     pub REPEAT-there : q < c .routines
     REPEAT-there = omega (arith, lower, h)
 
-    pub REPEAT-falls : (m : ℕ) → 2 * k ≡ m → 2 * q + 1 < m
+    pub REPEAT-falls : (m : ℕ) → 3 * k ≡ m → 3 * q + 2 < m
     REPEAT-falls m f = omega (arith, lower, f)
 
     module _ (masks : List ℕ) (w : Masks b (c .routines) masks) where
