@@ -41,6 +41,19 @@ struct zn_run_answer {
    regs_len bytes, and the two do not overlap; where a length is 0 its pointer may be NULL. Any bytes and numbers may be given. */
 struct zn_run_answer zn_run(const uint8_t *flat, size_t flat_len, size_t start, uint8_t *regs, size_t regs_len, uint64_t budget);
 
+/* What the quote answers. Where it is refused, quote is 0; an empty routine quotes 0 too, and is no refusal. */
+struct zn_quote_answer {
+    uint16_t refusal; /* 0, or the number of the refusal */
+    uint16_t place;   /* the refusal's place */
+    uint64_t quote;   /* a budget that is enough */
+};
+
+/* Quotes one routine of a book, with all that it uses. The quote is a budget that is enough: a run of the routine's flat program from line
+   0 with at least so many steps never ends OUT OF STEPS, whatever the registers hold. A routine that is not steady has no quote, and is
+   refused with 18. Nothing is written. It takes some 2 KB of stack. What the caller owes: book points to book_len bytes; where the length
+   is 0 the pointer may be NULL. Any bytes and numbers may be given. */
+struct zn_quote_answer zn_quote(const uint8_t *book, size_t book_len, size_t routine);
+
 #ifdef __cplusplus
 }
 #endif
