@@ -84,12 +84,85 @@ struct book book_of(const struct text *t)
     return b;
 }
 
+struct book inc_lines(unsigned n)
+{
+    struct text t = {0};
+    add_routine(&t);
+    add_lines(&t, n, INC, 0, 0);
+    return book_of(&t);
+}
+
+struct book repeat_of(unsigned n)
+{
+    struct text t = {0};
+    add_routine(&t);
+    add_lines(&t, n, INC, 0, 0);
+    add_routine(&t);
+    add_lines(&t, 1, REPEAT, 7, 0);
+    return book_of(&t);
+}
+
 struct book tower(unsigned lines, unsigned times)
 {
     struct text t = {0};
     add_routine(&t);
     add_lines(&t, lines, INC, 0, 0);
     add_tower(&t, 31, times);
+    return book_of(&t);
+}
+
+struct book tower_over_empty(unsigned times)
+{
+    struct text t = {0};
+    add_routine(&t);
+    add_tower(&t, 30, times);
+    add_routine(&t);
+    add_lines(&t, 1, CALL, 0, 30);
+    add_lines(&t, 1, INC, 1, 0);
+    add_lines(&t, 1, CALL, 0, 30);
+    add_lines(&t, 1, GO_TO, 0, 2);
+    add_lines(&t, 1, REPEAT, 3, 30);
+    return book_of(&t);
+}
+
+struct book just_wraps(unsigned digits)
+{
+    struct text t = {0};
+    add_routine(&t);
+    add_lines(&t, 1, INC, 0, 0);
+    add_tower(&t, digits - 1, 16);
+    add_routine(&t);
+    add_lines(&t, 14, CALL, 0, 0);
+    for (unsigned k = 1; k < digits; k++)
+        add_lines(&t, 15, CALL, 0, k);
+    add_routine(&t);
+    add_lines(&t, 1, REPEAT, 0, digits);
+    add_routine(&t);
+    add_lines(&t, 1, CALL, 0, digits + 1);
+    add_lines(&t, 3, INC, 0, 0);
+    return book_of(&t);
+}
+
+struct book deep_calls(void)
+{
+    struct text t = {0};
+    for (unsigned r = 0; r < MOST_ROUTINES; r++) {
+        add_routine(&t);
+        add_lines(&t, 1, INC, r, 0);
+        add_lines(&t, r > 0, CALL, 0, r - 1);
+    }
+    return book_of(&t);
+}
+
+struct book deep_repeats(void)
+{
+    struct text t = {0};
+    add_routine(&t);
+    add_lines(&t, 1, INC, 0, 0);
+    for (unsigned r = 1; r < MOST_ROUTINES; r++) {
+        add_routine(&t);
+        add_lines(&t, 1, REPEAT, r, r - 1);
+    }
     return book_of(&t);
 }
 

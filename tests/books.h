@@ -49,8 +49,27 @@ void write_book(struct book *b, const struct text *t);
 
 struct book book_of(const struct text *t);
 
+/* So many lines of INC 0. */
+struct book inc_lines(unsigned n);
+
+/* Routine 0 has so many lines of INC 0, routine 1 is REPEAT 7 of it. */
+struct book repeat_of(unsigned n);
+
 /* A first routine of so many lines of INC 0, and 31 routines that each call the one before so many times. */
 struct book tower(unsigned lines, unsigned times);
+
+/* 30 routines over an empty one, each calling the one before so many times, and then a routine with lines of its own. */
+struct book tower_over_empty(unsigned times);
+
+/* Routine k has 16^k lines, as far as 16^(digits - 1). Then come a routine of 16^digits - 2 lines, a REPEAT of it, and a CALL of that with
+   three lines more. */
+struct book just_wraps(unsigned digits);
+
+/* 32 routines open inside one another: routine r is INC r and a CALL of the one before. */
+struct book deep_calls(void);
+
+/* The same by REPEAT: routine 0 is INC 0, routine r is REPEAT r of the one before. */
+struct book deep_repeats(void);
 
 /* Routine 0 is empty. Routine 1 has 3,000 calls of it and a jump to its own end. 12 doublings: routine 13 has 4,096 flat lines. */
 struct book behind_empty_calls(void);

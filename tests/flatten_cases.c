@@ -79,15 +79,6 @@ static void samples(void)
     check(gives(&x, 3, due), "source document 000, Example 1.24");
 }
 
-/* So many lines of INC 0. */
-static struct book inc_lines(unsigned n)
-{
-    struct text t = {0};
-    add_routine(&t);
-    add_lines(&t, n, INC, 0, 0);
-    return book_of(&t);
-}
-
 static void sample_h_and_near_it(void)
 {
     struct book h = sample_h();
@@ -190,21 +181,6 @@ static void empty_routines(void)
     check(gives(&b, 2, flat(0, 0)) && gives(&b, 3, flat(0, 0)), "routines of nothing but calls of empty ones");
 }
 
-/* 30 routines over an empty one, each calling the one before so many times, and then a routine with lines of its own. */
-static struct book tower_over_empty(unsigned times)
-{
-    struct text t = {0};
-    add_routine(&t);
-    add_tower(&t, 30, times);
-    add_routine(&t);
-    add_lines(&t, 1, CALL, 0, 30);
-    add_lines(&t, 1, INC, 1, 0);
-    add_lines(&t, 1, CALL, 0, 30);
-    add_lines(&t, 1, GO_TO, 0, 2);
-    add_lines(&t, 1, REPEAT, 3, 30);
-    return book_of(&t);
-}
-
 /* An answer comes at once: opening each copy would take 2^30 steps and more. */
 static void towers_over_an_empty_routine(void)
 {
@@ -246,15 +222,7 @@ static void long_books(void)
 
 static void deep_books(void)
 {
-    struct text calls = {0}, flat_calls = {0}, repeats = {0}, flat_repeats = {0};
-    for (unsigned r = 0; r < 32; r++) {
-        add_routine(&calls);
-        add_lines(&calls, 1, INC, r, 0);
-        add_lines(&calls, r > 0, CALL, 0, r - 1);
-        add_routine(&repeats);
-        add_lines(&repeats, r == 0, INC, 0, 0);
-        add_lines(&repeats, r > 0, REPEAT, r, r - 1);
-    }
+    struct text flat_calls = {0}, flat_repeats = {0};
     add_routine(&flat_calls);
     for (unsigned r = 32; r-- > 0;)
         add_lines(&flat_calls, 1, INC, r, 0);
@@ -264,20 +232,9 @@ static void deep_books(void)
     add_lines(&flat_repeats, 1, INC, 0, 0);
     for (unsigned i = 31; i-- > 0;)
         add_lines(&flat_repeats, 1, GO_TO, 0, i);
-    struct book b = book_of(&calls), c = book_of(&repeats);
+    struct book b = deep_calls(), c = deep_repeats();
     check(gives(&b, 31, book_of(&flat_calls)), "32 routines open inside one another by CALL");
     check(gives(&c, 31, book_of(&flat_repeats)), "32 routines open inside one another by REPEAT");
-}
-
-/* Routine 0 has so many lines of INC 0, routine 1 is REPEAT 7 of it. */
-static struct book repeat_of(unsigned n)
-{
-    struct text t = {0};
-    add_routine(&t);
-    add_lines(&t, n, INC, 0, 0);
-    add_routine(&t);
-    add_lines(&t, 1, REPEAT, 7, 0);
-    return book_of(&t);
 }
 
 static void long_repeats(void)
@@ -320,26 +277,6 @@ static void lengths_of_towers(void)
     check(gives(&b, 3, inc_lines(4096)) && too_long_from(&b, 4, 32), "powers of 16: 2^16, 2^32 and 2^64 lines among them");
     b = tower(128, 128);
     check(gives(&b, 0, inc_lines(128)) && too_long_from(&b, 1, 32), "powers of 128: up to 2^224 lines");
-}
-
-/* Routine k has 16^k lines, as far as 16^(digits - 1). Then come a routine of 16^digits - 2 lines, a REPEAT of it, and a CALL of that with
-   three lines more. */
-static struct book just_wraps(unsigned digits)
-{
-    struct text t = {0};
-    add_routine(&t);
-    add_lines(&t, 1, INC, 0, 0);
-    add_tower(&t, digits - 1, 16);
-    add_routine(&t);
-    add_lines(&t, 14, CALL, 0, 0);
-    for (unsigned k = 1; k < digits; k++)
-        add_lines(&t, 15, CALL, 0, k);
-    add_routine(&t);
-    add_lines(&t, 1, REPEAT, 0, digits);
-    add_routine(&t);
-    add_lines(&t, 1, CALL, 0, digits + 1);
-    add_lines(&t, 3, INC, 0, 0);
-    return book_of(&t);
 }
 
 static void lengths_that_just_wrap(void)
