@@ -5,7 +5,7 @@
 #include <sys/mman.h>
 #include <unistd.h>
 
-static void must(int right)
+void must(int right)
 {
     if (!right)
         abort();

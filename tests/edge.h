@@ -7,6 +7,9 @@
 
 enum { ROOM = 21 * 4096 };
 
+/* What no test can do without: it is aborted where this is not so. */
+void must(int right);
+
 struct pages {
     uint8_t *edge;
 };

@@ -41,6 +41,10 @@ struct book flat_e(void) { return flat(2, (const unsigned[][3]){{DEC, 9, 2}, {GO
 
 struct book sample_f(void) { return flat(1, (const unsigned[][3]){{GO_TO, 0, 0}}); }
 
+struct book sample_g(void) { return nested(2, (const unsigned[]){1, 1}, (const unsigned[][3]){{INC, 0, 0}, {REPEAT, 0, 0}}); }
+
+struct book sample_g_also(void) { return nested(2, (const unsigned[]){1, 1}, (const unsigned[][3]){{DEC, 0, 1}, {REPEAT, 0, 0}}); }
+
 struct book sample_h(void)
 {
     struct text t = {0};

@@ -13,6 +13,10 @@ struct book sample_e(void);
 struct book flat_e(void);
 struct book sample_f(void);
 
+/* REPEAT 0 of INC 0, and of DEC 0 to 1. */
+struct book sample_g(void);
+struct book sample_g_also(void);
+
 /* Up to routine 13, and with a last routine 14 of CALL 12 and one INC. */
 struct book sample_h(void);
 
