@@ -1,5 +1,5 @@
-/* Books made at random, good and damaged, run and flattened by the library and by document 01 in plain C: answers and what is written
-   must be the same. Usage: made [CASES [SEED]], for so many runs and half as many flattenings. */
+/* Books made at random, good and damaged, run, flattened and quoted by the library and by document 01 in plain C: answers and what is
+   written must be the same. Usage: made [CASES [SEED]], for so many runs, and half as many flattenings and quotes. */
 #include "../include/zundernetz.h"
 #include "making.h"
 #include "paper.h"
@@ -17,7 +17,7 @@ struct tally {
     unsigned long came[QUOTE + 1], differing;
 };
 
-static struct tally runs = {"zn_run", {0}, 0}, flattenings = {"zn_flatten", {0}, 0};
+static struct tally runs = {"zn_run", {0}, 0}, flattenings = {"zn_flatten", {0}, 0}, quotings = {"zn_quote", {0}, 0};
 
 static size_t wide(void)
 {
@@ -120,10 +120,15 @@ static struct flattened flatten_both(unsigned long number, size_t routine, size_
     return b;
 }
 
+/* Most often one of so many, the last among them. */
+static size_t made_routine(size_t routines)
+{
+    return one_in(12) ? routines + below(3) : one_in(20) ? wide() : one_in(2) ? routines - 1 : below(routines);
+}
+
 static void one_flattening(unsigned long number)
 {
-    size_t lengths[MOST_ROUTINES], routines = make_nested(&book, lengths);
-    size_t routine = one_in(12) ? routines + below(3) : one_in(20) ? wide() : one_in(2) ? routines - 1 : below(routines);
+    size_t lengths[MOST_ROUTINES], routines = make_nested(&book, lengths), routine = made_routine(routines);
     size_t lines = routine < routines ? lengths[routine] : 0;
     int damaged = one_in(4);
     if (damaged)
@@ -131,6 +136,52 @@ static void one_flattening(unsigned long number)
     struct flattened b = flatten_both(number, routine, made_room(lines));
     near_below += b.lines >= MOST_LINES - 6;
     near_above += b.refusal.number == TOO_LONG && !damaged && lines <= MOST_LINES + 4;
+}
+
+/* -- quotes -- */
+
+/* A run of so many steps can be waited for. */
+enum { SHORT_RUN = 200000 };
+
+/* How often a quote of 50 to 64 bits was accepted, which takes three REPEATs inside one another, and one of 65 to 80 bits refused, which
+   takes four; how many runs had the quote for their budget, how many needed all of one above 0, and how many ended OUT OF STEPS. */
+static unsigned long high, too_high, budgets, used_up, short_of;
+
+static void tell_quote(unsigned long number, struct zn_quote_answer a, struct quoted b)
+{
+    printf("case %lu: zn_quote refusal %d place %d quote %llu\n", number, a.refusal, a.place, (unsigned long long)a.quote);
+    printf("case %lu: paper    refusal %d place %ld quote %llu, %d bits\n", number, b.refusal.number, b.refusal.place, (unsigned long long)b.quote, b.bits);
+}
+
+/* The routine flattened, and run from made registers with its quote for the budget. */
+static void run_with_quote(unsigned long number, size_t routine, uint64_t quote)
+{
+    static uint8_t out[OUTPUT];
+    uint8_t registers[80];
+    made_registers(registers);
+    struct zn_flatten_answer f = zn_flatten(book.bytes, book.length, routine, out, OUTPUT);
+    struct zn_run_answer a = zn_run(out, 16 + 4 * f.lines, 0, registers, 64, quote);
+    budgets++;
+    used_up += quote > 0 && a.steps == quote;
+    if ((f.refusal || a.refusal || a.outcome == ZN_OUT_OF_STEPS) && short_of++ < 5)
+        printf("case %lu: refusals %d and %d, outcome %d after %llu steps\n", number, f.refusal, a.refusal, a.outcome, (unsigned long long)a.steps);
+}
+
+static void one_quote(unsigned long number)
+{
+    size_t lengths[MOST_ROUTINES], routines = one_in(4) ? make_nested(&book, lengths) : make_steady(&book);
+    size_t routine = made_routine(routines);
+    if (one_in(4))
+        damage(&book);
+    struct zn_quote_answer a = zn_quote(book.bytes, book.length, routine);
+    struct quoted b = paper_quote(book.bytes, book.length, routine);
+    if ((a.refusal != b.refusal.number || a.place != b.refusal.place || a.quote != b.quote) && quotings.differing++ < 5)
+        tell_quote(number, a, b);
+    quotings.came[b.refusal.number]++;
+    high += b.bits >= 50 && b.bits <= 64;
+    too_high += b.bits > 64 && b.bits <= 80;
+    if (a.refusal == 0 && a.quote < SHORT_RUN)
+        run_with_quote(number, routine, a.quote);
 }
 
 /* -- what came -- */
@@ -161,6 +212,8 @@ int main(int argc, char **argv)
         one_run(i);
     for (unsigned long i = 0; i < cases / 2; i++)
         one_flattening(i);
+    for (unsigned long i = 0; i < cases / 2; i++)
+        one_quote(i);
     check_tally(&runs, (const int[]){NOT_FLAT, REGISTERS, LINE}, 3);
     for (int o = FINISHED; o <= FULL; o++) {
         printf("zn_run %s: %lu\n", outcomes[o], ended[o]);
@@ -169,5 +222,10 @@ int main(int argc, char **argv)
     check_tally(&flattenings, (const int[]){NO_ROUTINE, TOO_LONG, NO_ROOM}, 3);
     printf("zn_flatten: %lu of 4,090 to 4,096 flat lines, %lu of 4,097 to 4,100\n", near_below, near_above);
     check(near_below > 0 && near_above > 0, "flat lengths near 4,096");
+    check_tally(&quotings, (const int[]){NO_ROUTINE, TOO_LONG, NOT_STEADY, QUOTE}, 4);
+    printf("zn_quote: %lu accepted of 50 to 64 bits, %lu refused of 65 to 80 bits\n", high, too_high);
+    check(high > 0 && too_high > 0, "quotes near 2^64-1");
+    printf("zn_quote: %lu runs with the quote for their budget, %lu used it up, %lu OUT OF STEPS\n", budgets, used_up, short_of);
+    check(used_up > 0 && short_of == 0, "the quote is enough");
     return report();
 }

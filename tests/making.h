@@ -16,6 +16,10 @@ void make_book(struct book *b, int forward);
    Answers how many routines it has. Their flat lengths, up to 10,000, are for the choice of a room: no answer is judged by them. */
 size_t make_nested(struct book *b, size_t lengths[MOST_ROUTINES]);
 
+/* A good book to quote, of 1 to 32 routines, steady or nearly: two of three have only lines that are steady unless the registers run out. Some
+   have routines near 4,096 flat lines or far too long ones. Answers how many routines it has. */
+size_t make_steady(struct book *b);
+
 /* A byte, a number or the length changed, most often by little; now and then more than once, so that the order of two faults is tested. */
 void damage(struct book *b);
 

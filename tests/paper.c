@@ -1,4 +1,5 @@
 #include "paper.h"
+#include "number.h"
 
 enum kind { INC = 1, DEC, GO_TO, CALL, REPEAT };
 
@@ -28,6 +29,7 @@ static long count(const uint8_t *b, long r) { return number_at(b, 12 + 4 * r + 2
 static int kind(const uint8_t *b, long i) { return b[12 + 4 * routines(b) + 4 * i]; }
 static int reg(const uint8_t *b, long i) { return b[12 + 4 * routines(b) + 4 * i + 1]; }
 static long operand(const uint8_t *b, long i) { return number_at(b, 12 + 4 * routines(b) + 4 * i + 2); }
+static int uses(const uint8_t *b, long i) { return kind(b, i) == CALL || kind(b, i) == REPEAT; }
 
 /* Given exactly when .. the first six. */
 static struct refusal front(const uint8_t *b, size_t length)
@@ -127,7 +129,7 @@ static void work_out_depths(const uint8_t *b, long depths[])
     for (long r = 0; r < routines(b); r++) {
         depths[r] = 1;
         for (long i = first_line(b, r); i < first_line(b, r) + count(b, r); i++)
-            if ((kind(b, i) == CALL || kind(b, i) == REPEAT) && depths[r] < 1 + depths[operand(b, i)])
+            if (uses(b, i) && depths[r] < 1 + depths[operand(b, i)])
                 depths[r] = 1 + depths[operand(b, i)];
     }
 }
@@ -197,7 +199,8 @@ static void write_flat_book(uint8_t *out, const struct program *p)
     }
 }
 
-static struct refusal flatten_refusal(const uint8_t *b, size_t length, size_t routine, size_t room)
+/* Then: flattening 12, 11, 13, 14; quote 12, 11, 13, 18, 19. The first three are the same. */
+static struct refusal flattens_refusal(const uint8_t *b, size_t length, size_t routine)
 {
     long lengths[MOST_ROUTINES], depths[MOST_ROUTINES];
     struct refusal r = check(b, length);
@@ -211,20 +214,22 @@ static struct refusal flatten_refusal(const uint8_t *b, size_t length, size_t ro
     work_out_lengths(b, lengths);
     if (lengths[routine] > MOST_FLAT_LINES)
         return refused(TOO_LONG, 0);
-    if (room < 16 + 4 * (size_t)lengths[routine])
-        return refused(NO_ROOM, 0);
     return none;
 }
 
 struct flattened paper_flatten(const uint8_t *b, size_t length, size_t routine, uint8_t *out, size_t room)
 {
-    struct flattened a = {flatten_refusal(b, length, routine, room), 0};
+    struct flattened a = {flattens_refusal(b, length, routine), 0};
     long lengths[MOST_ROUTINES];
     struct program p;
     if (a.refusal.number)
         return a;
-    p.lines = 0;
     work_out_lengths(b, lengths);
+    if (room < 16 + 4 * (size_t)lengths[routine]) {
+        a.refusal = refused(NO_ROOM, 0);
+        return a;
+    }
+    p.lines = 0;
     paste(b, lengths, (long)routine, &p);
     write_flat_book(out, &p);
     a.lines = (size_t)p.lines;
@@ -280,4 +285,96 @@ struct ran paper_run(const uint8_t *b, size_t length, size_t start, uint8_t *reg
         registers[2 * reg(b, i) + 1] = (uint8_t)(left / 256);
         a.steps = a.steps + 1;
     }
+}
+
+/* -- steady routines -- */
+
+enum { MOST_REGISTERS = 32 };
+
+/* Which registers are named (by INC, DEC or REPEAT) in a routine or in any routine used under it. From the lowest up too. */
+static void work_out_named(const uint8_t *b, int named[][MOST_REGISTERS])
+{
+    for (long r = 0; r < routines(b); r++) {
+        for (int j = 0; j < MOST_REGISTERS; j++)
+            named[r][j] = 0;
+        for (long i = first_line(b, r); i < first_line(b, r) + count(b, r); i++) {
+            if (kind(b, i) == INC || kind(b, i) == DEC || kind(b, i) == REPEAT)
+                named[r][reg(b, i)] = 1;
+            for (int j = 0; j < MOST_REGISTERS; j++)
+                if (uses(b, i) && named[operand(b, i)][j])
+                    named[r][j] = 1;
+        }
+    }
+}
+
+static int line_steady(const uint8_t *b, int named[][MOST_REGISTERS], const int steady[], long r, long i)
+{
+    /* .. a line that calls is steady if the routine is. */
+    if (uses(b, i) && !steady[operand(b, i)])
+        return 0;
+    /* A DEC or GO TO line is steady if its target is above its own number. */
+    if (kind(b, i) == DEC || kind(b, i) == GO_TO)
+        return operand(b, i) > i - first_line(b, r);
+    /* A REPEAT line also needs that its register is not named .. */
+    if (kind(b, i) == REPEAT)
+        return !named[operand(b, i)][reg(b, i)];
+    return 1;
+}
+
+/* A routine is steady if its lines are, .. From the lowest up too. */
+static void work_out_steady(const uint8_t *b, int steady[])
+{
+    int named[MOST_ROUTINES][MOST_REGISTERS];
+    work_out_named(b, named);
+    for (long r = 0; r < routines(b); r++) {
+        steady[r] = 1;
+        for (long i = first_line(b, r); i < first_line(b, r) + count(b, r); i++)
+            if (!line_steady(b, named, steady, r, i))
+                steady[r] = 0;
+    }
+}
+
+/* -- the quote -- */
+
+/* The quote: INC, DEC, GO TO 1; CALL the routine's quote; REPEAT 65,535 x (quote + 2) + 1; .. */
+static struct number line_quote(const uint8_t *b, const struct number quotes[], long i)
+{
+    if (kind(b, i) == CALL)
+        return quotes[operand(b, i)];
+    if (kind(b, i) == REPEAT)
+        return plus(times(plus(quotes[operand(b, i)], number(2)), 65535), number(1));
+    return number(1);
+}
+
+/* .. a routine the sum of its lines. From the lowest up too. */
+static void work_out_quotes(const uint8_t *b, struct number quotes[])
+{
+    for (long r = 0; r < routines(b); r++) {
+        quotes[r] = number(0);
+        for (long i = first_line(b, r); i < first_line(b, r) + count(b, r); i++)
+            quotes[r] = plus(quotes[r], line_quote(b, quotes, i));
+    }
+}
+
+struct quoted paper_quote(const uint8_t *b, size_t length, size_t routine)
+{
+    struct quoted a = {flattens_refusal(b, length, routine), 0, 0};
+    int steady[MOST_ROUTINES];
+    struct number quotes[MOST_ROUTINES];
+    if (a.refusal.number)
+        return a;
+    work_out_steady(b, steady);
+    if (!steady[routine]) {
+        a.refusal = refused(NOT_STEADY, 0);
+        return a;
+    }
+    work_out_quotes(b, quotes);
+    a.bits = bits(quotes[routine]);
+    /* 19: quote above 2^64-1 */
+    if (a.bits > 64) {
+        a.refusal = refused(QUOTE, 0);
+        return a;
+    }
+    a.quote = low_64_bits(quotes[routine]);
+    return a;
 }

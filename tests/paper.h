@@ -33,8 +33,17 @@ struct flattened {
     size_t lines;
 };
 
+/* What the quote answers, and how many bits it has: also where it is refused with 19, and 0 with any other refusal. */
+struct quoted {
+    struct refusal refusal;
+    uint64_t quote;
+    int bits;
+};
+
 struct flattened paper_flatten(const uint8_t *book, size_t length, size_t routine, uint8_t *out, size_t room);
 
 struct ran paper_run(const uint8_t *book, size_t length, size_t start, uint8_t *registers, size_t registers_length, uint64_t budget);
+
+struct quoted paper_quote(const uint8_t *book, size_t length, size_t routine);
 
 #endif
