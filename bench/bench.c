@@ -49,18 +49,25 @@ static int told(const char *call, const char *name, struct times t, double units
     return !same;
 }
 
-/* -- flattening -- */
-
-/* A row: a book, the routine, and how many calls make a round. Where they are many the calls are short, and are told in ns. */
-struct flatten_row {
+/* A row of flattening or of the quote: a book, the routine, and how many calls make a round. */
+struct routine_row {
     const char *name;
     struct book (*make)(void);
     size_t routine;
     int calls;
 };
 
+/* The same, told in ns where the calls are many, and so short. */
+static int told_of(const char *call, const struct routine_row *r, struct times t, int same)
+{
+    int in_ns = r->calls > 100;
+    return told(call, r->name, t, (in_ns ? 1e9 : 1e6) / r->calls, in_ns ? "ns a call" : "us a call", same);
+}
+
+/* -- flattening -- */
+
 /* Among them the slowest books that we know. No call of ours is to take more than 5 ms; that is read off, and never tested. */
-static const struct flatten_row flatten_rows[] = {
+static const struct routine_row flatten_rows[] = {
     {"sample A", sample_a, 1, 5000},
     {"one routine of 4,096 lines, INC", all_inc, 0, 20},
     {"one routine of 4,096 lines, the three mixed", all_mixed, 0, 20},
@@ -78,7 +85,7 @@ static uint8_t out[2][MOST_ROOM];
 
 static double timed_flatten(const void *row, int plain)
 {
-    const struct flatten_row *r = row;
+    const struct routine_row *r = row;
     struct zn_flatten_answer (*f)(const uint8_t *, size_t, size_t, uint8_t *, size_t) = plain ? plain_flatten : zn_flatten;
     double begin = seconds();
     for (int i = 0; i < r->calls; i++)
@@ -86,15 +93,14 @@ static double timed_flatten(const void *row, int plain)
     return seconds() - begin;
 }
 
-static int compare_flatten(const struct flatten_row *r)
+static int compare_flatten(const struct routine_row *r)
 {
     const struct zn_flatten_answer *a = &flattened[0], *b = &flattened[1];
     book = r->make();
     memset(out, 0, sizeof out);
     struct times t = best_of(timed_flatten, r);
     int same = a->refusal == b->refusal && a->place == b->place && a->lines == b->lines && memcmp(out[0], out[1], MOST_ROOM) == 0;
-    int in_ns = r->calls > 100;
-    return told("zn_flatten", r->name, t, (in_ns ? 1e9 : 1e6) / r->calls, in_ns ? "ns a call" : "us a call", same);
+    return told_of("zn_flatten", r, t, same);
 }
 
 /* -- running -- */
@@ -151,6 +157,49 @@ static int compare_run(const struct run_row *r)
     return told("zn_run", r->name, t, units, by_step ? "ns a step" : "ns a call", same);
 }
 
+/* -- the quote -- */
+
+static const struct routine_row quote_rows[] = {
+    {"sample A", sample_a, 1, 5000},
+    {"one routine of 4,096 lines, INC", all_inc, 0, 20},
+    {"the same, the three mixed, jumps forward", all_forward, 0, 20},
+    {"the same, GO TO the next", all_go_to_the_next, 0, 20},
+    {"18 NOT STEADY, the last of 4,096 lines", last_line_unsteady, 0, 20},
+    {"32 routines, the five kinds mixed, steady", steady_routines, 31, 20},
+    {"13 TOO LONG, 32 routines, the five kinds", thirty_two_routines, 31, 20},
+    {"32 routines of 64 lines, calls three deep", three_deep_forward, 31, 20},
+    {"18 NOT STEADY, the same with jumps back", three_deep, 31, 20},
+    {"sample H, routine 12", sample_h, 12, 20},
+    {"a jump behind 3,000 empty calls, 4,096 times", behind_empty_calls, 13, 1},
+    {"31 deep, 132 lines each, doubled outside", doubled_outside, 31, 1},
+    {"31 deep, 132 lines each, doubled inside", doubled_inside, 31, 1},
+    {"thirty doublings of an empty routine", empty_tower, 30, 2000},
+    {"2,048 REPEATs of an empty routine", many_repeats, 1, 20},
+    {"three REPEATs inside one another", sample_i, 3, 5000},
+    {"19 QUOTE, 31 REPEATs inside one another", deep_repeats, 31, 2000},
+    {"19 QUOTE, the same over 4,034 lines", long_repeats, 31, 20},
+};
+
+static struct zn_quote_answer quoted[2];
+
+static double timed_quote(const void *row, int plain)
+{
+    const struct routine_row *r = row;
+    struct zn_quote_answer (*f)(const uint8_t *, size_t, size_t) = plain ? plain_quote : zn_quote;
+    double begin = seconds();
+    for (int i = 0; i < r->calls; i++)
+        quoted[plain] = f(book.bytes, book.length, r->routine);
+    return seconds() - begin;
+}
+
+static int compare_quote(const struct routine_row *r)
+{
+    const struct zn_quote_answer *a = &quoted[0], *b = &quoted[1];
+    book = r->make();
+    struct times t = best_of(timed_quote, r);
+    return told_of("zn_quote", r, t, a->refusal == b->refusal && a->place == b->place && a->quote == b->quote);
+}
+
 int main(void)
 {
     int wrong = 0;
@@ -158,5 +207,7 @@ int main(void)
         wrong |= compare_flatten(&flatten_rows[i]);
     for (size_t i = 0; i < sizeof run_rows / sizeof *run_rows; i++)
         wrong |= compare_run(&run_rows[i]);
+    for (size_t i = 0; i < sizeof quote_rows / sizeof *quote_rows; i++)
+        wrong |= compare_quote(&quote_rows[i]);
     return wrong;
 }

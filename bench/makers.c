@@ -51,6 +51,43 @@ struct book all_mixed(void)
     return book_of(&t);
 }
 
+/* The jumps of the last routine are changed: each goes to a later line or the end. */
+static void go_forward(struct text *t)
+{
+    unsigned count = t->counts[t->routines - 1], first = t->lines - count;
+    for (unsigned j = 0; j < count; j++) {
+        unsigned *fields = t->fields[first + j];
+        if (fields[0] == DEC || fields[0] == GO_TO)
+            fields[2] = j + 1 + fields[2] % (count - j);
+    }
+}
+
+struct book all_forward(void)
+{
+    struct text t = {0};
+    uint32_t x = 1;
+    add_routine(&t);
+    add_mixed(&t, &x, MOST_LINES, 3, MOST_LINES);
+    go_forward(&t);
+    return book_of(&t);
+}
+
+struct book last_line_unsteady(void)
+{
+    struct book b = all_forward();
+    line(&b, 1, MOST_LINES - 1, GO_TO, 0, MOST_LINES - 1);
+    return b;
+}
+
+struct book all_go_to_the_next(void)
+{
+    struct text t = {0};
+    add_routine(&t);
+    for (unsigned i = 0; i < MOST_LINES; i++)
+        add_lines(&t, 1, GO_TO, 0, i + 1);
+    return book_of(&t);
+}
+
 struct book last_line_bad(void)
 {
     struct book b = all_dec_to_the_end();
@@ -76,7 +113,29 @@ struct book thirty_two_routines(void)
     return book_of(&t);
 }
 
-struct book three_deep(void)
+/* The registers of other lines are below 30, and 30 and 31 are those of the two REPEATs of the one before. */
+struct book steady_routines(void)
+{
+    struct text t = {0};
+    uint32_t x = 1;
+    add_routine(&t);
+    for (unsigned r = 1; r < 32; r++) {
+        add_routine(&t);
+        add_mixed(&t, &x, 128, 5, 128);
+        go_forward(&t);
+        for (unsigned i = t.lines - 128; i < t.lines; i++) {
+            t.fields[i][1] %= 30;
+            t.fields[i][2] = t.fields[i][0] >= CALL ? 0 : t.fields[i][2];
+        }
+        unsigned *use = t.fields[t.lines - 64];
+        use[0] = r == 11 || r == 21 ? REPEAT : CALL;
+        use[1] = r == 11 ? 30 : r == 21 ? 31 : 0;
+        use[2] = r - 1;
+    }
+    return book_of(&t);
+}
+
+static struct book calls_three_deep(int forward)
 {
     struct text t = {0};
     uint32_t x = 1;
@@ -88,6 +147,33 @@ struct book three_deep(void)
             add_lines(&t, 1, CALL, 0, r < 31 ? (5 * r + i) % 12 + (r < 24 ? 0 : 12) : 24 + i);
         }
         add_mixed(&t, &x, 64 - t.counts[r], 3, 64);
+        if (forward)
+            go_forward(&t);
+    }
+    return book_of(&t);
+}
+
+struct book three_deep(void) { return calls_three_deep(0); }
+
+struct book three_deep_forward(void) { return calls_three_deep(1); }
+
+struct book many_repeats(void)
+{
+    struct text t = {0};
+    add_routine(&t);
+    add_routine(&t);
+    add_lines(&t, 2048, REPEAT, 0, 0);
+    return book_of(&t);
+}
+
+struct book long_repeats(void)
+{
+    struct text t = {0};
+    add_routine(&t);
+    add_lines(&t, 4034, INC, 0, 0);
+    for (unsigned r = 1; r < 32; r++) {
+        add_routine(&t);
+        add_lines(&t, 1, REPEAT, r, r - 1);
     }
     return book_of(&t);
 }

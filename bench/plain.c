@@ -1,11 +1,12 @@
-/* Flattening and running in plain quick C: the same tests in the same order, the same bytes read where they stand. Built with -O3. */
+/* Flattening, running and the quote in plain quick C: the same tests in the same order, the same bytes read where they stand. Built with
+   -O3. */
 #include "plain.h"
 
 enum { HEADER = 12, ENTRY = 4, LINE = 4, ROUTINES = 32, LINES = 4096, REGISTERS = 32, TOP = 65535 };
 enum { INC = 1, DEC, GO_TO, CALL, REPEAT };
 enum {
     SHORT = 1, FORMAT, COUNTS, OFFSETS, LENGTH, ROUTINE, KIND, REGISTER, TARGET, CALLEE,
-    DEPTH, NO_ROUTINE, TOO_LONG, NO_ROOM, NOT_FLAT, NOT_32, PAST_END
+    DEPTH, NO_ROUTINE, TOO_LONG, NO_ROOM, NOT_FLAT, NOT_32, PAST_END, NOT_STEADY, QUOTE
 };
 
 /* -- the book -- */
@@ -249,5 +250,87 @@ struct zn_run_answer plain_run(const uint8_t *flat, size_t flat_len, size_t star
         regs[2 * j] = (uint8_t)own[j];
         regs[2 * j + 1] = (uint8_t)(own[j] >> 8);
     }
+    return a;
+}
+
+/* -- the quote -- */
+
+/* What is to be known of a routine by those that use it. A length above the limit is kept as one more than it; a quote that is too high
+   is marked, and then not looked at. */
+struct row {
+    uint64_t quote;
+    uint32_t named; /* a bit for each register, of the routine and of those that it uses */
+    unsigned length, depth, unsteady, over;
+};
+
+/* The highest quote of a routine for which a REPEAT of it has at most 2^64-1. */
+static const uint64_t MOST_REPEATED = (UINT64_MAX - 1) / TOP - 2;
+
+/* One pass over a routine's lines. INC, DEC and GO TO are told apart without a branch. */
+static struct row row_of(const struct row *rows, const uint8_t *line, unsigned count)
+{
+    struct row own = {0, 0, 0, 0, 0, 0};
+    unsigned others = 0;
+    for (unsigned j = 0; j < count; j++, line += LINE) {
+        unsigned kind = line[0], operand = two(line + 2);
+        if (kind < CALL) {
+            own.named |= (uint32_t)(kind != GO_TO) << line[1];
+            own.unsteady |= (unsigned)(kind != INC) & (operand <= j);
+            continue;
+        }
+        const struct row *used = &rows[operand];
+        uint64_t quote = used->quote;
+        others++;
+        own.unsteady |= used->unsteady;
+        own.over |= used->over;
+        own.length += used->length;
+        own.depth = used->depth > own.depth ? used->depth : own.depth;
+        if (kind == REPEAT) {
+            own.unsteady |= used->named >> line[1] & 1;
+            own.over |= quote > MOST_REPEATED;
+            own.named |= (uint32_t)1 << line[1];
+            own.length += 2;
+            quote = TOP * (quote + 2) + 1;
+        }
+        own.named |= used->named;
+        own.over |= __builtin_add_overflow(own.quote, quote, &own.quote);
+    }
+    own.over |= __builtin_add_overflow(own.quote, count - others, &own.quote);
+    own.length += count - others;
+    own.length = own.length > LINES ? LINES + 1 : own.length;
+    own.depth++;
+    return own;
+}
+
+static struct zn_quote_answer not_quoted(unsigned number, unsigned place)
+{
+    struct zn_quote_answer a = {(uint16_t)number, (uint16_t)place, 0};
+    return a;
+}
+
+struct zn_quote_answer plain_quote(const uint8_t *book, size_t book_len, size_t routine)
+{
+    struct row rows[ROUTINES];
+    struct zn_quote_answer a = {0};
+    struct refusal wrong = check(book, book_len);
+    if (wrong.number)
+        return not_quoted(wrong.number, wrong.place);
+    if (routine >= two(book + 2))
+        return not_quoted(NO_ROUTINE, 0);
+    const uint8_t *line = book + HEADER + ENTRY * two(book + 2);
+    for (size_t r = 0; r <= routine; r++) {
+        unsigned count = two(book + HEADER + ENTRY * r + 2);
+        rows[r] = row_of(rows, line, count);
+        line += LINE * count;
+    }
+    if (rows[routine].depth > ROUTINES)
+        return not_quoted(DEPTH, 0);
+    if (rows[routine].length > LINES)
+        return not_quoted(TOO_LONG, 0);
+    if (rows[routine].unsteady)
+        return not_quoted(NOT_STEADY, 0);
+    if (rows[routine].over)
+        return not_quoted(QUOTE, 0);
+    a.quote = rows[routine].quote;
     return a;
 }

@@ -8,4 +8,6 @@ struct zn_flatten_answer plain_flatten(const uint8_t *book, size_t book_len, siz
 
 struct zn_run_answer plain_run(const uint8_t *flat, size_t flat_len, size_t start, uint8_t *regs, size_t regs_len, uint64_t budget);
 
+struct zn_quote_answer plain_quote(const uint8_t *book, size_t book_len, size_t routine);
+
 #endif
