@@ -93,4 +93,4 @@ module _ (b : List ℕ) (c : Counts) (t : Taken-with b c) (k : ℕ) (lengths mas
           unfolding quoted-told
           quote-in-the-row e =
               let within = above-tells (quote (book-of b) k) most-quote .when-false .0 (sym (w .overs-are .each k asked-is-there) ∙ e) in
-              ap accepted (w .numbers-are .each k asked-is-there within) ∙ sym (quote-accepts b k flattens a-steady-one within)
+              ap accepted (w .numbers-are .each k asked-is-there within) ∙ sym (quote-accepts b k (record { flattens = flattens; a-steady-one = a-steady-one; not-too-high = within }))

@@ -10,15 +10,14 @@ use Rattle.scope.specs.Book.{routines, lines, count, fields-in, Taken, b
 use Rattle.scope.specs.Steps.{register-count, Registers}
 use Rattle.scope.specs.Flattening.{flat-length, flat-program, flat-book, flat-book-bytes, at-the-front-of, flatten-call}
 use Rattle.scope.specs.Running.{run-call, State, bench-call}
-use Rattle.scope.specs.Quote.{quote, most-quote, quote-answer}
+use Rattle.scope.specs.Quote.{quote, quote-answer}
 use Rattle.scope.specs.Page.{registers-length, page-run-call}
 use Rattle.scope.specs.Shop.{book-read, routine-read, trailer-length, most-input, print-run, print-refusal, shop-run, shop-prints-by, shop-prints}
-use Rattle.scope.specs.SteadyWords.{Steady-routine}
 use Rattle.scope.specs.Given.{Given}
-use Rattle.scope.specs.GivenByCalls.{Given-reading, Flattens, Given-flattening, Given-quote, Given-running, Given-bench, Given-in-the-shop, refusing}
-use Rattle.scope.proofs.Verdicts.{refused-exactly-when, refusal-writes-nothing, accepted-where-passed, call-where-passed}
+use Rattle.scope.specs.GivenByCalls.{Given-reading, Flattens, Given-flattening, Given-quote, Quotes, Given-running, Given-bench, Given-in-the-shop, refusing}
+use Rattle.scope.proofs.Verdicts.{refused-exactly-when, refusal-writes-nothing, accepted-only-where-passed, accepted-where-passed, call-where-passed}
 use Rattle.scope.proofs.GivenExactlyWhen.{given-exactly-when}
-use Rattle.scope.proofs.GivenByCalls.{reading-passes, reading-given-exactly-when, flattening-passes, flattening-given-exactly-when, quote-passes, quote-given-exactly-when, running-with-registers, running-with-bytes, bench-given-exactly-when, shop-passes, shop-given-exactly-when}
+use Rattle.scope.proofs.GivenByCalls.{reading-passes, reading-given-exactly-when, flattening-passes, flattening-given-exactly-when, quotes-exactly-when, quote-given-exactly-when, running-with-registers, running-with-bytes, bench-given-exactly-when, shop-passes, shop-given-exactly-when}
 
 answers-refused :
     {A G : Type 0} (v : Verdict) (values : A) (x : Refusal) → (v ≡ refuse x) ↔ G → (answer-of v values ≡ refused x) ↔ G
@@ -67,11 +66,15 @@ pub quote-refused-exactly : (b : List ℕ) (k : ℕ) (x : Refusal) → (quote-an
 unfolding quote-answer
 quote-refused-exactly b k x = answers-refused _ _ x (quote-given-exactly-when b k x)
 
-pub quote-accepts :
-    (b : List ℕ) (k : ℕ) → Flattens b k → Steady-routine (book-of b) k → quote (book-of b) k ≤ most-quote
-    → quote-answer b k ≡ accepted (quote (book-of b) k)
+pub quote-accepts : (b : List ℕ) (k : ℕ) → Quotes b k → quote-answer b k ≡ accepted (quote (book-of b) k)
 unfolding quote-answer
-quote-accepts b k f s q = accepted-where-passed _ (quote-passes b k f s q)
+quote-accepts b k w = accepted-where-passed _ (quotes-exactly-when b k .1 w)
+
+pub quote-accepts-only : (b : List ℕ) (k q : ℕ) → quote-answer b k ≡ accepted q → Quotes b k × (quote (book-of b) k ≡ q)
+unfolding quote-answer
+quote-accepts-only b k q e =
+    let passed = accepted-only-where-passed _ e in
+    (quotes-exactly-when b k .0 (passed .0), passed .1)
 
 -- ---- running and the bench step; what they answer where they are not refused stands in `RunAnswers`
 

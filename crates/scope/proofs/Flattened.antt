@@ -7,18 +7,20 @@ use mathlib.Core.List.{List}
 use native.Mathlib.Omega.{arith}
 use lib.ListN.{length}
 use Rattle.scope.specs.Words.{_is-not_}
-use Rattle.scope.specs.Refusals.{pass}
+use Rattle.scope.specs.Refusals.{accepted, pass}
 use Rattle.scope.specs.Book.{book-of}
 use Rattle.scope.specs.Steps.{register-count, Registers, Values-within}
 use Rattle.scope.specs.Nested.{nested-run}
 use Rattle.scope.specs.Flattening.{flat-program, flat-book}
-use Rattle.scope.specs.Running.{flat-run, program-of, run-verdict}
-use Rattle.scope.specs.Quote.{steady, quote}
+use Rattle.scope.specs.Running.{flat-run, program-of, ran, run-verdict, run-call}
+use Rattle.scope.specs.Quote.{steady, quote, quote-answer}
 use Rattle.scope.specs.Addresses.{Same-end}
-use Rattle.scope.specs.Enough.{Ends-within}
+use Rattle.scope.specs.Enough.{Ends-within, Answers-within}
 use Rattle.scope.specs.GivenByCalls.{Flattens}
-use Rattle.scope.proofs.Verdicts.{no-fault, is-not-tells}
+use Rattle.scope.proofs.Verdicts.{no-fault, is-not-tells, call-where-passed}
+use Rattle.scope.proofs.SteadyWords.{steady-exactly}
 use Rattle.scope.proofs.GivenByCalls.{running-passes}
+use Rattle.scope.proofs.Answers.{quote-accepts-only}
 use Rattle.scope.proofs.TakenBook.{taken-callees-below}
 use Rattle.scope.proofs.Simulation.{simulation}
 use Rattle.scope.proofs.QuoteEnough.{quote-enough}
@@ -50,3 +52,20 @@ module _ (b : List ℕ) (k : ℕ) (flattens : Flattens b k) where
       → Ends-within (quote (book-of b) k) (flat-run (program-of (flat-book (flat-program (book-of b) k))) 0 budget rs)
   flattened-quote-is-enough s budget rs low h =
       rw its-program (quote-enough (book-of b) (taken-callees-below b (flattens .taken)) k budget rs s low h .flat)
+
+-- What the calls answer: where a routine is quoted with q, a run of its flat book from line 0 with a budget of at least q is not refused, and
+-- ends by itself after at most q steps.
+pub quoted-run-ends :
+    (b : List ℕ) (k q : ℕ) → quote-answer b k ≡ accepted q → (budget : ℕ) (rs : Registers) → length rs ≡ register-count → Values-within rs
+    → q ≤ budget → Answers-within q (run-call (flat-book (flat-program (book-of b) k)) 0 rs budget)
+unfolding run-call
+quoted-run-ends b k q quoted budget rs len low h =
+    let (w, same) = quote-accepts-only b k q quoted in
+    let f = w .flattens in
+    let is-steady = steady-exactly (book-of b) (taken-callees-below b (f .taken)) k .1 (w .a-steady-one) in
+    let e = flat-run (program-of (flat-book (flat-program (book-of b) k))) 0 budget rs in
+    record {
+      end = e;
+      answers = call-where-passed (ran e) (e .registers) rs (flattened-can-be-run b k f rs len);
+      ends = rw same at (flattened-quote-is-enough b k f is-steady budget rs low (omega (arith, same, h)));
+    }

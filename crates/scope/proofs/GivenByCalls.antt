@@ -18,7 +18,7 @@ use Rattle.scope.specs.Shop.{book-read, routine-read, trailer-length, mo
 use Rattle.scope.specs.Depth.{Opens-too-many}
 use Rattle.scope.specs.SteadyWords.{Steady-routine}
 use Rattle.scope.specs.Given.{Given}
-use Rattle.scope.specs.GivenByCalls.{Given-reading, reading-the-book, reading-NO-ROUTINE, reading-LINE, Given-to-flatten, to-flatten-the-book, to-flatten-NO-ROUTINE, to-flatten-DEPTH, to-flatten-TOO-LONG, Flattens, Given-flattening, flattening-before, flattening-NO-ROOM, Given-quote, quote-before, quote-NOT-STEADY, quote-QUOTE, Given-running, running-the-book, running-NOT-FLAT, running-REGISTERS, running-LINE, Given-bench, bench-the-book, bench-NOT-FLAT, bench-LINE, Given-in-the-shop, shop-SHORT, shop-LENGTH, shop-before}
+use Rattle.scope.specs.GivenByCalls.{Given-reading, reading-the-book, reading-NO-ROUTINE, reading-LINE, Given-to-flatten, to-flatten-the-book, to-flatten-NO-ROUTINE, to-flatten-DEPTH, to-flatten-TOO-LONG, Flattens, Given-flattening, flattening-before, flattening-NO-ROOM, Given-quote, quote-before, quote-NOT-STEADY, quote-QUOTE, Quotes, Given-running, running-the-book, running-NOT-FLAT, running-REGISTERS, running-LINE, Given-bench, bench-the-book, bench-NOT-FLAT, bench-LINE, Given-in-the-shop, shop-SHORT, shop-LENGTH, shop-before}
 use Rattle.scope.proofs.Verdicts.{Tells, no-fault, exactly-tells, above-tells, below-tells, not-below-tells, is-not-tells, not-tells, pass-is-no-refusal, refuses, goes-on, which-refuses, finds-no-fault, then-goes-on, then-refuses, which-then-refuses, then-passes}
 use Rattle.scope.proofs.GivenExactlyWhen.{given-exactly-when}
 use Rattle.scope.proofs.TakenBook.{taken-callees-below}
@@ -179,11 +179,19 @@ quote-refuses b k x (quote-NOT-STEADY f s) = then-goes-on _ (none-refuses b k f)
 quote-refuses b k x (quote-QUOTE f s q) =
     then-goes-on _ (none-refuses b k f) ∙ goes-on _ _ (not-steady-tells b k (f .taken)) s ∙ refuses _ _ (quote-tells b k) q
 
-pub quote-passes :
-    (b : List ℕ) (k : ℕ) → Flattens b k → Steady-routine (book-of b) k → quote (book-of b) k ≤ most-quote → quote-verdict b k ≡ pass
+pub quotes-exactly-when : (b : List ℕ) (k : ℕ) → (quote-verdict b k ≡ pass) ↔ Quotes b k
 unfolding quote-verdict
-quote-passes b k f s q =
-    then-goes-on _ (none-refuses b k f) ∙ goes-on _ _ (not-steady-tells b k (f .taken)) s ∙ goes-on _ _ (quote-tells b k) q
+quotes-exactly-when b k = (
+  λ e.
+      let f = then-passes (flattens-verdict b k) e in
+      let flattens = all-pass b k (f .0) in
+      let s = finds-no-fault _ (not-steady-tells b k (flattens .taken)) (f .1) in
+      let q = finds-no-fault _ (quote-tells b k) (s .1) in
+      record { flattens = flattens; a-steady-one = s .0; not-too-high = q .0 },
+  λ w.
+      then-goes-on _ (none-refuses b k (w .flattens)) ∙ goes-on _ _ (not-steady-tells b k (w .flattens .taken)) (w .a-steady-one)
+      ∙ goes-on _ _ (quote-tells b k) (w .not-too-high),
+)
 
 pub quote-given-exactly-when : (b : List ℕ) (k : ℕ) (x : Refusal) → (quote-verdict b k ≡ refuse x) ↔ Given-quote b k x
 quote-given-exactly-when b k x = (quote-gives b k x, quote-refuses b k x)

@@ -2,13 +2,16 @@
 -- too: a REPEAT's register may be named in or under the repeated routine, if only no INC there raises it. Assumes nothing.
 use Prim.Native.Nat.{ℕ, _≤_}
 use mathlib.Core.Bool.{Bool, true, false}
+use mathlib.Core.Path.{_≡_}
 use Rattle.scope.specs.Words.{_is_}
+use Rattle.scope.specs.Refusals.{Call}
 use Rattle.scope.specs.Book.{Line, INC, DEC, GO-TO, CALL, REPEAT, Book, from-the-lowest-up}
 use Rattle.scope.specs.Steps.{Registers, By-itself, End}
 use Rattle.scope.specs.Nested.{nested-run}
 use Rattle.scope.specs.Flattening.{flat-program}
-use Rattle.scope.specs.Running.{flat-run}
+use Rattle.scope.specs.Running.{Ran, flat-run}
 use Rattle.scope.specs.Quote.{in-or-under, steady-by, quote}
+use Rattle.scope.specs.Transitions.{run-answering}
 use Rattle.scope.specs.SteadyWords.{Found-in-or-under}
 
 -- INC raises its register, and no other line does.
@@ -44,3 +47,9 @@ pub record Ends-within {P : Type 0} (most : ℕ) (e : End P) : Type 0 where
 pub record Quote-is-enough (book : Book) (k budget : ℕ) (rs : Registers) : Type 0 where
   pub nested : Ends-within (quote book k) (nested-run book k budget rs)
   pub flat : Ends-within (quote book k) (flat-run (flat-program book k) 0 budget rs)
+
+-- The call that runs answers how a run ended that ended so.
+pub record Answers-within (most : ℕ) (c : Call Ran Registers) : Type 0 where
+  pub end : End ℕ
+  pub answers : c ≡ run-answering end
+  pub ends : Ends-within most end

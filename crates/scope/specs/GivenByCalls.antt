@@ -51,6 +51,12 @@ pub data Given-quote (b : List ℕ) (k : ℕ) : Refusal → Type 0 where
   -- | 19 | QUOTE | quote above 2^64-1 |
   quote-QUOTE : Flattens b k → Steady-routine (book-of b) k → most-quote < quote (book-of b) k → Given-quote b k (refusal QUOTE 0)
 
+-- Routine k of the book has a quote: none of these is given.
+pub record Quotes (b : List ℕ) (k : ℕ) : Type 0 where
+  pub flattens : Flattens b k
+  pub a-steady-one : Steady-routine (book-of b) k
+  pub not-too-high : quote (book-of b) k ≤ most-quote
+
 -- .. running 15, 16, 17; .. (What it means that the lent registers are not 32 depends on how they are lent.)
 pub data Given-running (b : List ℕ) (Not-32 : Type 0) (start : ℕ) : Refusal → Type 0 where
   running-the-book : {x : Refusal} → Given b x → Given-running b Not-32 start x
