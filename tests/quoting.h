@@ -6,7 +6,7 @@
 #include "books.h"
 
 /* What a call has for its stack. It opens up to 32 routines inside one another, and a routine has up to 4,096 lines. */
-enum { SMALL_STACK = 16 * 1024 };
+enum { SMALL_STACK = 4 * 1024 };
 
 /* The routine is accepted with this quote. */
 int quotes(const struct book *b, size_t routine, uint64_t quote);
