@@ -1,11 +1,11 @@
 -- The depth of a routine, line by line: the deepest of the routines that its first lines use, and at its end one more.
 -- What is said of the first j + 1 lines is the larger of what is said of the first j and of the next. Assumes nothing.
-use Prim.Native.Nat.{ℕ, zero, suc, _+_, _<_, _≤_, min, max}
+use Prim.Native.Nat.{ℕ, suc, _+_, _<_, _≤_, min, max}
 use native.Mathlib.Omega.{arith}
 use native.Mathlib.Numerals.{add-one}
 use mathlib.Core.Path.{_≡_, refl, sym, _∙_}
 use mathlib.Core.Logic.{⊎-elim}
-use mathlib.Core.List.{List, [], _∷_}
+use mathlib.Core.List.{List, _∷_}
 use lib.ListN.{length, getD, set, take, drop}
 use Rattle.scope.specs.Words.{_above_}
 use Rattle.scope.specs.Book as book

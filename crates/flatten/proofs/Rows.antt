@@ -109,9 +109,6 @@ module _ (b : List ℕ) (c : Counts) (k : ℕ) (t : Taken-with b c) (h : k < c .
 
   module _ (j sum : ℕ) (there : j < count b k) (so-far : sum ≡ min (start (book-of b) k j) length-cap) (m : ℕ)
       (long : m ≡ min (line-length (flat-length (book-of b)) (line-of (fields-in b k j))) length-cap) where
-    pub next-start-fits : Fits w32 (sum + m)
-    next-start-fits = record { fits = omega (arith, so-far, long) }
-
     pub next-start-is : (n : ℕ) → n ≡ min (sum + m) length-cap → n ≡ min (start (book-of b) k (j + 1)) length-cap
     next-start-is n e =
         let next = next-start (book-of b) k j (line-in-the-book b k j here there) in

@@ -2,7 +2,7 @@
 -- A test that finds its fault gives the call's refusal; where all pass, the number in the row is the quote. Assumes nothing.
 use mir.Syntax.{w64}
 use mir.Val.{Fits}
-use Prim.Native.Nat.{ℕ, _*_, _<_, _≤_}
+use Prim.Native.Nat.{ℕ, _*_, _<_}
 use native.Mathlib.Omega.{arith}
 use mathlib.Core.Bool.{Bool, true, false, not}
 use mathlib.Core.Path.{_≡_, refl, sym, _∙_, ap}
@@ -32,7 +32,6 @@ use Rattle.flatten.specs.declared.Flattened.the-variants as flattened
 use Rattle.flatten.specs.Told.{flattened-told}
 use Rattle.flatten.specs.Rows.{length-cap, Row}
 use Rattle.flatten.proofs.Answers.{refused-as-given, it-passes}
-use Rattle.quote.specs.declared.Quoted.{Quoted}
 use Rattle.quote.specs.declared.Quoted.the-variants.{Steps, Refused}
 use Rattle.quote.specs.Told.{quoted-told}
 use Rattle.quote.specs.Looked.{Looked-below}

@@ -8,7 +8,6 @@ use mathlib.Core.Bool.{Bool, true, false}
 use mathlib.Core.Path.{_≡_, refl, sym, _∙_, ap}
 use mathlib.Core.List.{List}
 use lib.ListN.{getD}
-use Rattle.scope.specs.Words.{_above_}
 use Rattle.scope.specs.Book.{count, line-of, fields-in, book-of}
 use Rattle.scope.specs.Steps.{top}
 use Rattle.scope.specs.Quote.{line-quote, quote, most-quote}

@@ -1,29 +1,28 @@
 -- One look at a routine's lines tells its length, its mask and its quote; and what is told of the routines below k stands in the rows.
 -- The first j lines are looked at: how long they are, what they name and what they quote. Assumes nothing.
-use Prim.Native.Nat.{ℕ, suc, _+_, _<_, _≤_, min}
+use Prim.Native.Nat.{ℕ, _+_, _<_, _≤_, min}
 use native.Mathlib.Omega.{arith}
 use native.Mathlib.Numerals.{add-one}
 use mathlib.Core.Bool.{Bool, false}
-use mathlib.Core.Path.{_≡_, refl, sym, _∙_, ap}
+use mathlib.Core.Path.{_≡_, refl, _∙_, ap}
 use mathlib.Core.List.{List}
 use lib.ListN.{length, take, set}
 use lib.Bits.{bitOr}
 use Rattle.scope.specs.Book.{most-routines, routines, count, line-of, fields-in, routine, book-of}
-use Rattle.scope.specs.Flattening.{sum-of, flat-length, start}
-use Rattle.scope.specs.Quote.{named, line-quote, quote-by, quote, most-quote}
-use Rattle.scope.specs.Words.{_above_}
+use Rattle.scope.specs.Flattening.{sum-of, start}
+use Rattle.scope.specs.Quote.{line-quote, quote-by, quote}
 use Rattle.scope.proofs.TakenBook.{taken-callees-below, line-in-the-book, routine-ends, all-its-lines}
 use Rattle.scope.proofs.FlatLines.{sum-to-the-next, first-start, end-start}
 use Rattle.scope.proofs.Lowest.{quote-by-the-rule}
 use Rattle.book.specs.declared.header.Counts.{Counts}
 use Rattle.book.specs.Asked.{Taken-with}
 use Rattle.book.proofs.Scanned.{below-R}
-use Rattle.flatten.specs.Rows.{length-cap, Known, Row}
+use Rattle.flatten.specs.Rows.{length-cap}
 use Rattle.flatten.proofs.Rows.{empty-row, one-more-routine}
 use Rattle.quote.specs.declared.sums.Sum.{Sum}
 use Rattle.quote.specs.declared.looking.Looked.{Looked}
-use Rattle.quote.specs.Naming.{Marks, line-names, Masks}
-use Rattle.quote.specs.Sums.{Keeps, Added, Numbers, Overs}
+use Rattle.quote.specs.Naming.{Marks, line-names}
+use Rattle.quote.specs.Sums.{Keeps, Added}
 use Rattle.quote.specs.Looked.{Looked-at, Looked-below}
 use Rattle.quote.proofs.Masks.{named-to, nothing-named, one-more-named, all-named}
 use Rattle.quote.proofs.Keeping.{a-number-is-kept}

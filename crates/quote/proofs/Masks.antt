@@ -1,17 +1,16 @@
 -- The mask of a line marks what the line names; the masks of the first j lines joined mark what they name.
 -- By the kinds of line; CALL and REPEAT look the routine up in the row. Assumes nothing.
 use Prim.Native.Nat.{ℕ, suc, _+_, _<_, _≤_}
-use native.Mathlib.Omega.{arith}
 use native.Mathlib.Numerals.{add-one}
 use mathlib.Core.Bool.{Bool, true, false}
 use mathlib.Core.Path.{_≡_, refl, sym, _∙_, ap}
-use mathlib.Core.List.{List, [], _∷_}
+use mathlib.Core.List.{List, _∷_}
 use lib.ListN.{getD, take, drop}
 use lib.Bits.{bitOr}
 use Rattle.scope.specs.Words.{if, _is_, _or_}
 use Rattle.scope.specs.Book as book
 use Rattle.scope.specs.Book.{count, line-of, fields-in, routine, book-of, used, routines}
-use Rattle.scope.specs.Quote.{names, some-line, in-or-under-by, in-or-under, named}
+use Rattle.scope.specs.Quote.{names, some-line, in-or-under-by, named}
 use Rattle.scope.proofs.Lists.{said-to-the-next}
 use Rattle.scope.proofs.Lowest.{in-or-under-by-the-rule}
 use Rattle.scope.proofs.TakenBook.{taken-callees-below, line-in-the-book, all-its-lines}

@@ -1,18 +1,18 @@
 -- The steady test of lines and routines says what document 01's does: line by line, and of a routine below the mark by the row.
 -- A routine is steady if its lines are; each line by its kind. From a line to its routine the number falls. Assumes nothing.
-use Prim.Native.Nat.{ℕ, suc, _+_, _*_, _-_, _<_, _≤_}
+use Prim.Native.Nat.{ℕ, suc, _+_, _*_, _<_, _≤_}
 use native.Mathlib.Omega.{arith}
 use native.Mathlib.Numerals.{add-one}
 use mathlib.Core.Bool.{Bool, true, false, not}
 use mathlib.Core.Path.{_≡_, refl, sym, _∙_, ap}
-use mathlib.Core.List.{List, [], _∷_}
+use mathlib.Core.List.{List, []}
 use lib.ListN.{length, getD, set, drop, drop-of-length-le}
 use Rattle.scope.specs.Words.{if, _and_}
-use Rattle.scope.specs.Book.{most-routines, most-lines, routines, count, line-of, fields-in, routine, book-of}
+use Rattle.scope.specs.Book.{most-routines, routines, count, line-of, fields-in, routine, book-of}
 use Rattle.scope.specs.Quote.{named, line-steady, lines-steady, steady-by, steady}
 use Rattle.scope.proofs.Verdicts.{itself-tells, not-tells}
 use Rattle.scope.proofs.Lowest.{steady-by-the-rule}
-use Rattle.scope.proofs.TakenBook.{taken-book, taken-callees-below, line-in-the-book, routine-in-the-book, length-routine-of}
+use Rattle.scope.proofs.TakenBook.{taken-callees-below, line-in-the-book, routine-in-the-book, length-routine-of}
 use Rattle.book.specs.declared.header.Counts.{Counts}
 use Rattle.book.specs.declared.lines.Reg.{Reg}
 use Rattle.book.specs.declared.lines.Line.{Line}

@@ -3,7 +3,7 @@
 use borrow.Author.Needs.{needs}
 use Rattle.flatten.proofs.lengths.next_start.Statement.{statement}
 use Rattle.flatten.proofs.lengths.next_start.Tie as tie
-use Rattle.flatten.proofs.Rows.{next-start-fits, next-start-is}
+use Rattle.flatten.proofs.Rows.{next-start-is}
 
 line-length-requires : tie.Need-line-length-requires
 line-length-requires c κs = search needs
