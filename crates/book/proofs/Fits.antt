@@ -2,9 +2,10 @@
 -- A taken line fits, field by field, and it is the line of the list that the bytes say; both by the answer's cases. Assumes nothing.
 use Prim.Native.Nat.{ℕ, suc, _<_, _≤_}
 use native.Mathlib.Omega.{arith}
-use mathlib.Core.Path.{_≡_, sym, _∙_, ap}
+use mathlib.Core.Path.{_≡_, sym, _∙_, ap, subst}
 use mathlib.Core.List.{List, _∷_}
 use lib.ListN.{drop}
+use Rattle.scope.specs.Book as book
 use Rattle.scope.specs.Book.{routines, lines, count, line-of, fields-at, fields-in}
 use Rattle.scope.specs.Steps.{register-count}
 use Rattle.scope.specs.Running.{instruction-of, program-of}
@@ -42,6 +43,10 @@ module _ (b : List ℕ) (c : Counts) (l : Line) (r j : ℕ) (t : Taken-with b c)
     (e : line-told l ≡ line-of (fields-in b r j)) where
   here : r < routines b
   here = below-R r (t .tabled .sized) h
+
+  -- What holds of a line of this kind holds of the line.
+  pub holds-of-the-line : (P : book.Line → Type 0) {m : Line} → l ≡ m → P (line-told m) → P (line-of (fields-in b r j))
+  holds-of-the-line P k w = subst P (ap line-told (sym k) ∙ e) w
 
   pub line-fits : {m : Line} → l ≡ m → Fits-line r (count b r) m
   line-fits k =

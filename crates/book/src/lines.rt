@@ -16,6 +16,9 @@ pub struct Reg(pub u8);
 
 pub struct RoutineLine(pub u16);
 
+// What a register counts to.
+pub const TOP: u16 = 65535;
+
 // A target counts lines of its routine; CALL and REPEAT name a routine.
 pub enum Line {
     Inc(Reg),

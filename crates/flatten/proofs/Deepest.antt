@@ -36,10 +36,10 @@ module _ (b : List ℕ) (c : Counts) (l : Line) (k j : ℕ) (t : Taken-with b c)
 
   module _ (row : List ℕ) (w : Row (depth (book-of b)) depth-cap k row) where
     pub CALL-depth : {q : ℕ} → l ≡ line.Call q → getD row q 0 ≡ min (depth (book-of b) q) depth-cap
-    CALL-depth = CALL-looked-up b c l k j t h s e 0 (λ c n. n ≡ min (depth (book-of b) c) depth-cap) row w
+    CALL-depth = CALL-looked-up b c l k j t h s e 0 _ row w
 
     pub REPEAT-depth : {g : Reg} {q : ℕ} → l ≡ line.Repeat g q → getD row q 0 ≡ min (depth (book-of b) q) depth-cap
-    REPEAT-depth = REPEAT-looked-up b c l k j t h s e 0 (λ c n. n ≡ min (depth (book-of b) c) depth-cap) row w
+    REPEAT-depth = REPEAT-looked-up b c l k j t h s e 0 _ row w
 
 -- ---- a routine
 
@@ -88,7 +88,7 @@ pub record Depths-to (b : List ℕ) (routine k : ℕ) (depths : List ℕ) : Type
   pub depths-are : Row (depth (book-of b)) depth-cap k depths
 
 pub no-depth-yet : (b : List ℕ) (routine : ℕ) (depths : List ℕ) → length depths ≡ most-routines → Depths-to b routine 0 depths
-no-depth-yet b routine depths long = record { upto = omega arith; depths-are = empty-row 0 (λ c n. n ≡ min (depth (book-of b) c) depth-cap) depths long }
+no-depth-yet b routine depths long = record { upto = omega arith; depths-are = empty-row 0 _ depths long }
 
 module _ (b : List ℕ) (c : Counts) (t : Taken-with b c) (routine k : ℕ) (h : routine < c .routines) (depths : List ℕ)
     (s : Depths-to b routine k depths) where
@@ -100,7 +100,7 @@ module _ (b : List ℕ) (c : Counts) (t : Taken-with b c) (routine k : ℕ) (h :
       record {
         upto = omega (arith, g);
         depths-are =
-            one-more-routine 0 (λ c n. n ≡ min (depth (book-of b) c) depth-cap) depths k d (s .depths-are) (omega (arith, g, h, t .tabled .sized .routines-to-32)) e;
+            one-more-routine 0 _ depths k d (s .depths-are) (omega (arith, g, h, t .tabled .sized .routines-to-32)) e;
       }
 
   -- Stopped above 32, a depth is above 32 where it was.

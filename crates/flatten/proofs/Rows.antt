@@ -24,7 +24,7 @@ use Rattle.book.specs.declared.lines.Line.the-variants as line
 use Rattle.book.specs.Told.{line-told}
 use Rattle.book.specs.Asked.{Taken-with, Entry-within}
 use Rattle.book.proofs.Scanned.{below-R}
-use Rattle.book.proofs.Fits.{CALL-below, REPEAT-below}
+use Rattle.book.proofs.Fits.{holds-of-the-line, CALL-below, REPEAT-below}
 use Rattle.flatten.specs.Rows.{length-cap, Known, Row, slot, due, table-length, Filled, Measured, Table, Measured-all}
 
 -- ---- a row
@@ -32,6 +32,10 @@ use Rattle.flatten.specs.Rows.{length-cap, Known, Row, slot, due, table-
 module _ {A : Type 0} (none : A) (Is : ℕ → A → Type 0) (row : List A) where
   pub empty-row : length row ≡ most-routines → Known none Is 0 row
   empty-row long = record { long = long; each = λ c h. absurd (omega arith) }
+
+  -- Every routine of a book has a place there.
+  pub has-a-place : (k r : ℕ) (b : List ℕ) (c : Counts) → Taken-with b c → Known none Is k row → r < c .routines → r < length row
+  has-a-place k r b c t w h = omega (arith, h, w .long, t .tabled .sized .routines-to-32)
 
   pub one-more-routine : (k : ℕ) (a : A) → Known none Is k row → k < most-routines → Is k a → Known none Is (k + 1) (set row k a)
   one-more-routine k a w h e =
@@ -47,21 +51,18 @@ module _ (b : List ℕ) (c : Counts) (l : Line) (k j : ℕ) (t : Taken-with b c)
   -- What is said of a line of this kind is said of the line.
   pub said-of-the-line : (f : book.Line → ℕ) (cap n : ℕ) {m : Line} → l ≡ m → n ≡ min (f (line-told m)) cap
       → n ≡ min (f (line-of (fields-in b k j))) cap
-  said-of-the-line f cap n d g = g ∙ ap (λ x. min (f x) cap) (ap line-told (sym d) ∙ e)
+  said-of-the-line f cap n d g = holds-of-the-line b c l k j t h s e (λ x. n ≡ min (f x) cap) d g
 
   pub length-is : (n : ℕ) {m : Line} → l ≡ m → n ≡ min (line-length (flat-length (book-of b)) (line-told m)) length-cap
       → n ≡ min (line-length (flat-length (book-of b)) (line-of (fields-in b k j))) length-cap
   length-is = said-of-the-line (line-length (flat-length (book-of b))) length-cap
 
   module _ {A : Type 0} (none : A) (Is : ℕ → A → Type 0) (row : List A) (w : Known none Is k row) where
-    in-the-row : {q : ℕ} → q < k → q < length row
-    in-the-row g = omega (arith, g, h, w .long, t .tabled .sized .routines-to-32)
-
     pub CALL-in-the-row : {q : ℕ} → l ≡ line.Call q → q < length row
-    CALL-in-the-row d = in-the-row (CALL-below b c l k j t h s e d)
+    CALL-in-the-row d = has-a-place none Is row k _ b c t w (omega (arith, CALL-below b c l k j t h s e d, h))
 
     pub REPEAT-in-the-row : {g : Reg} {q : ℕ} → l ≡ line.Repeat g q → q < length row
-    REPEAT-in-the-row d = in-the-row (REPEAT-below b c l k j t h s e d)
+    REPEAT-in-the-row d = has-a-place none Is row k _ b c t w (omega (arith, REPEAT-below b c l k j t h s e d, h))
 
     pub CALL-looked-up : {q : ℕ} → l ≡ line.Call q → Is q (getD row q none)
     CALL-looked-up d = w .each _ (CALL-below b c l k j t h s e d)
@@ -72,11 +73,11 @@ module _ (b : List ℕ) (c : Counts) (l : Line) (k j : ℕ) (t : Taken-with b c)
   -- CALL the length of the routine; REPEAT that length plus 2.
   module _ (row : List ℕ) (w : Row (flat-length (book-of b)) length-cap k row) where
     pub CALL-length : {q : ℕ} → l ≡ line.Call q → getD row q 0 ≡ min (flat-length (book-of b) q) length-cap
-    CALL-length = CALL-looked-up 0 (λ c n. n ≡ min (flat-length (book-of b) c) length-cap) row w
+    CALL-length = CALL-looked-up 0 _ row w
 
     module _ {g : Reg} {q : ℕ} (d : l ≡ line.Repeat g q) where
       looked-up : getD row q 0 ≡ min (flat-length (book-of b) q) length-cap
-      looked-up = REPEAT-looked-up 0 (λ c n. n ≡ min (flat-length (book-of b) c) length-cap) row w d
+      looked-up = REPEAT-looked-up 0 _ row w d
 
       pub REPEAT-length-fits : Fits w32 (getD row q 0 + 2)
       REPEAT-length-fits = record { fits = omega (arith, looked-up) }
@@ -203,7 +204,7 @@ unfolding due first-line-due
 nothing-measured b R lengths starts long tall =
     record {
       upto = omega arith;
-      lengths-are = empty-row 0 (λ c n. n ≡ min (flat-length (book-of b) c) length-cap) lengths long;
+      lengths-are = empty-row 0 _ lengths long;
       long = tall;
       filled = record { each = λ r i g m low. absurd (omega (arith, low)) };
     }
@@ -215,7 +216,7 @@ module _ (b : List ℕ) (c : Counts) (t : Taken-with b c) (k : ℕ) (lengths sta
       record {
         upto = omega (arith, h);
         lengths-are =
-            one-more-routine 0 (λ c n. n ≡ min (flat-length (book-of b) c) length-cap) lengths k n (s .lengths-are) (omega (arith, h, t .tabled .sized .routines-to-32)) (m .length-is);
+            one-more-routine 0 _ lengths k n (s .lengths-are) (omega (arith, h, t .tabled .sized .routines-to-32)) (m .length-is);
         long = same ∙ s .long;
         filled = m .filled;
       }

@@ -1,5 +1,5 @@
 -- A row with a place for each routine, and the table of starts, both filled from the lowest routine up.
--- Contracts of `lengths` cite them, and of crates above that keep rows. Assumes nothing.
+-- Contracts of this crate cite them, and of crates above that keep rows. Assumes nothing.
 use Prim.Native.Nat.{ℕ, _+_, _<_, _≤_, min}
 use mathlib.Core.Path.{_≡_}
 use mathlib.Core.List.{List}
@@ -11,7 +11,8 @@ use Rattle.scope.specs.Flattening.{flat-length, start, most-flat-lines}
 abbrev pub length-cap : ℕ
 length-cap = most-flat-lines + 1
 
--- What is known of the routines below k, in a row with a place for each routine.
+-- What is known of the routines below k, in a row with a place for each routine: in place c stands an a with `Is c a`. (Behind the row,
+-- where nothing stands, `none` is read.)
 pub record Known {A : Type 0} (none : A) (Is : (routine : ℕ) → A → Type 0) (k : ℕ) (row : List A) : Type 0 where
   pub long : length row ≡ most-routines
   pub each : (c : ℕ) → c < k → Is c (getD row c none)

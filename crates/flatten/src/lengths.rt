@@ -15,7 +15,7 @@ use book::lines::line_at;
 use book::table::count;
 use book::table::first_line;
 
-// A row has a number for each routine.
+// A row has a place for each routine.
 pub const ROW: usize = MOST_ROUTINES as usize;
 
 // The table of starts has one for each line, and for each routine's end.

@@ -62,12 +62,6 @@ module _ (b : List ℕ) (c : Counts) (t : Taken-with b c) (k : ℕ) (lengths mas
       pub asked-is-there : k < c .routines
       asked-is-there = omega (arith, flattens .a-routine, t .tabled .sized .counts .routines-are)
 
-      pub number-there : k < length numbers
-      number-there = omega (arith, asked-is-there, w .numbers-are .long, t .tabled .sized .routines-to-32)
-
-      pub over-there : k < length overs
-      over-there = omega (arith, asked-is-there, w .overs-are .long, t .tabled .sized .routines-to-32)
-
       pub number-fits : Fits w64 (k * 8)
       number-fits = record { fits = omega (arith, asked-is-there, t .tabled .sized .routines-to-32) }
 

@@ -18,6 +18,7 @@ use Rattle.book.specs.declared.lines.Line.{Line}
 use Rattle.book.specs.declared.lines.Line.the-variants as line
 use Rattle.book.specs.Told.{line-told}
 use Rattle.book.specs.Asked.{Taken-with}
+use Rattle.book.proofs.Fits.{holds-of-the-line}
 use Rattle.flatten.proofs.Rows.{CALL-looked-up, REPEAT-looked-up}
 use Rattle.quote.specs.declared.sums.Sum.{Sum}
 use Rattle.quote.specs.Sums.{Keeps, Added, Repeated, Numbers, Overs}
@@ -92,10 +93,9 @@ module _ (a r : Sum) where
 
 module _ (b : List ℕ) (c : Counts) (l : Line) (k j : ℕ) (t : Taken-with b c) (h : k < c .routines) (s : j < count b k)
     (e : line-told l ≡ line-of (fields-in b k j)) where
-  -- What is kept of a line of this kind is kept of the line.
   pub kept-of-the-line : (n : ℕ) (over : Bool) {m : Line} → l ≡ m → Keeps (line-quote (quote (book-of b)) (line-told m)) n over
       → Keeps (line-quote (quote (book-of b)) (line-of (fields-in b k j))) n over
-  kept-of-the-line n over d w = rw (ap line-told (sym d) ∙ e) at w
+  kept-of-the-line n over d w = holds-of-the-line b c l k j t h s e (λ x. Keeps (line-quote (quote (book-of b)) x) n over) d w
 
   module _ (numbers : List ℕ) (overs : List Bool) (w : Numbers b k numbers) (o : Overs b k overs) where
     pub CALL-kept : {q : ℕ} → l ≡ line.Call q

@@ -21,6 +21,7 @@ use Rattle.book.specs.declared.lines.Line.{Line}
 use Rattle.book.specs.declared.lines.Line.the-variants as line
 use Rattle.book.specs.Told.{line-told}
 use Rattle.book.specs.Asked.{Taken-with}
+use Rattle.book.proofs.Fits.{holds-of-the-line}
 use Rattle.flatten.proofs.Rows.{CALL-looked-up, REPEAT-looked-up}
 use Rattle.quote.specs.Naming.{Marks, line-names, Masks}
 use Rattle.quote.proofs.Bits.{no-register-marked, either-marked, as-marked}
@@ -43,7 +44,7 @@ module _ (b : List ℕ) (c : Counts) (l : Line) (k j : ℕ) (t : Taken-with b c)
   Marked = Marks (line-names b (line-of (fields-in b k j)))
 
   so-named : {m : Line} {f : ℕ → Bool} {mask : ℕ} → l ≡ m → Marks f mask → ((q : ℕ) → f q ≡ line-names b (line-told m) q) → Marked mask
-  so-named {m} d p same = as-marked p (λ q. same q ∙ ap (λ x. line-names b x q) (ap line-told (sym d) ∙ e))
+  so-named {mask = mask} d p same = holds-of-the-line b c l k j t h s e (λ x. Marks (line-names b x) mask) d (as-marked p same)
 
   pub INC-marked : (mask : ℕ) {g : Reg} → l ≡ line.Inc g → Marks (λ q. g .0 is q) mask → Marked mask
   unfolding line-names names used line-told

@@ -1,18 +1,18 @@
 -- The steady test of lines and routines says what document 01's does: line by line, and of a routine below the mark by the row.
--- A routine is steady if its lines are; each line by its kind. From a line to its routine the number falls. Assumes nothing.
+-- A routine is steady if its lines are; each line by its kind. From a line to the routine that it uses the number falls. Assumes nothing.
 use Prim.Native.Nat.{ℕ, suc, _+_, _*_, _<_, _≤_}
 use native.Mathlib.Omega.{arith}
 use native.Mathlib.Numerals.{add-one}
 use mathlib.Core.Bool.{Bool, true, false, not}
 use mathlib.Core.Path.{_≡_, refl, sym, _∙_, ap}
 use mathlib.Core.List.{List, []}
-use lib.ListN.{length, getD, set, drop, drop-of-length-le}
+use lib.ListN.{length, getD, set, drop}
 use Rattle.scope.specs.Words.{if, _and_}
 use Rattle.scope.specs.Book.{most-routines, routines, count, line-of, fields-in, routine, book-of}
 use Rattle.scope.specs.Quote.{named, line-steady, lines-steady, steady-by, steady}
 use Rattle.scope.proofs.Verdicts.{itself-tells, not-tells}
 use Rattle.scope.proofs.Lowest.{steady-by-the-rule}
-use Rattle.scope.proofs.TakenBook.{taken-callees-below, line-in-the-book, routine-in-the-book, length-routine-of}
+use Rattle.scope.proofs.TakenBook.{taken-callees-below, line-in-the-book, routine-ends}
 use Rattle.book.specs.declared.header.Counts.{Counts}
 use Rattle.book.specs.declared.lines.Reg.{Reg}
 use Rattle.book.specs.declared.lines.Line.{Line}
@@ -20,7 +20,7 @@ use Rattle.book.specs.declared.lines.Line.the-variants as line
 use Rattle.book.specs.Told.{line-told}
 use Rattle.book.specs.Asked.{Taken-with}
 use Rattle.book.proofs.Scanned.{below-R}
-use Rattle.book.proofs.Fits.{CALL-below, REPEAT-below}
+use Rattle.book.proofs.Fits.{holds-of-the-line, CALL-below, REPEAT-below}
 use Rattle.flatten.proofs.Rows.{empty-row, one-more-routine}
 use Rattle.quote.specs.Naming.{bit, Masks}
 use Rattle.quote.specs.Steadiness.{Tested}
@@ -41,11 +41,8 @@ unfolding if
 and-false true = refl
 and-false false = refl
 
--- From a routine to its lines and to each of them the number stays, and the test of less comes first.
-pub lines-fall : (k m : ℕ) → 3 * k + 2 ≡ m → 3 * k + 1 < m
-lines-fall k m f = omega (arith, f)
-
-pub line-falls : (k m : ℕ) → 3 * k + 1 ≡ m → 3 * k < m
+-- From a routine to its lines the number stays, and the measure falls by one.
+pub line-falls : (k m : ℕ) → 2 * k + 1 ≡ m → 2 * k < m
 line-falls k m f = omega (arith, f)
 
 -- ---- a line
@@ -57,7 +54,7 @@ module _ (b : List ℕ) (c : Counts) (l : Line) (k j : ℕ) (t : Taken-with b c)
 
   -- What is said of a line of this kind is said of the line.
   pub said-of-the-line : (r : Bool) {m : Line} → l ≡ m → r ≡ line-steady (named (book-of b)) (steady (book-of b)) j (line-told m) → r ≡ of-this-line
-  said-of-the-line r d g = g ∙ ap (line-steady (named (book-of b)) (steady (book-of b)) j) (ap line-told (sym d) ∙ e)
+  said-of-the-line r d g = holds-of-the-line b c l k j t h s e (λ x. r ≡ line-steady (named (book-of b)) (steady (book-of b)) j x) d g
 
   -- A line that calls is steady if the routine is.
   module _ {q : ℕ} (d : l ≡ line.Call q) where
@@ -67,7 +64,7 @@ module _ (b : List ℕ) (c : Counts) (l : Line) (k j : ℕ) (t : Taken-with b c)
     pub CALL-there : q < c .routines
     CALL-there = omega (arith, low, h)
 
-    pub CALL-falls : (m : ℕ) → 3 * k ≡ m → 3 * q + 2 < m
+    pub CALL-falls : (m : ℕ) → 2 * k ≡ m → 2 * q + 1 < m
     CALL-falls m f = omega (arith, low, f)
 
   -- A REPEAT line also needs that its register is not named ..
@@ -78,13 +75,10 @@ module _ (b : List ℕ) (c : Counts) (l : Line) (k j : ℕ) (t : Taken-with b c)
     pub REPEAT-there : q < c .routines
     REPEAT-there = omega (arith, lower, h)
 
-    pub REPEAT-falls : (m : ℕ) → 3 * k ≡ m → 3 * q + 2 < m
+    pub REPEAT-falls : (m : ℕ) → 2 * k ≡ m → 2 * q + 1 < m
     REPEAT-falls m f = omega (arith, lower, f)
 
     module _ (masks : List ℕ) (w : Masks b (c .routines) masks) where
-      pub REPEAT-has-a-mask : q < length masks
-      REPEAT-has-a-mask = omega (arith, REPEAT-there, w .long, t .tabled .sized .routines-to-32)
-
       module _ (marked : Bool) (tells : marked ≡ bit (g .0) (getD masks q 0)) where
         its-register : {x : Bool} → marked ≡ x → named (book-of b) (g .0) q ≡ x
         its-register f = sym (w .each q REPEAT-there .each (g .0)) ∙ sym tells ∙ f
@@ -109,9 +103,6 @@ module _ (b : List ℕ) (c : Counts) (t : Taken-with b c) (k : ℕ) (h : k < c .
   here = below-R k (t .tabled .sized) h
 
   module _ (mark : ℕ) (tested : List Bool) (w : Tested b mark tested) where
-    pub routine-has-an-answer : k < length tested
-    routine-has-an-answer = omega (arith, h, w .long, t .tabled .sized .routines-to-32)
-
     pub answer-in-the-row : k < mark → getD tested k false ≡ steady (book-of b) k
     answer-in-the-row g = w .each k g
 
@@ -128,8 +119,8 @@ module _ (b : List ℕ) (c : Counts) (t : Taken-with b c) (k : ℕ) (h : k < c .
       pub no-line-left : n ≤ j → true ≡ steady (book-of b) k
       unfolding lines-steady
       no-line-left g =
-          let none : drop j (routine (book-of b) k) ≡ [] =
-          drop-of-length-le (routine (book-of b) k) {i = j} (omega (arith, g, size, ap length (routine-in-the-book b k here), length-routine-of b k)) in
+          let last : j ≡ count b k = omega (arith, g, size, s .upto) in
+          let none : drop j (routine (book-of b) k) ≡ [] = rw last (routine-ends b k here) in
           sym (rw none at (s .rest-decides))
 
       module _ (more : j < n) (first : Bool) (tests : first ≡ line-steady (named (book-of b)) (steady (book-of b)) j (line-of (fields-in b k j))) where

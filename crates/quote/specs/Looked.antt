@@ -18,7 +18,7 @@ pub record Looked-at (b : List ℕ) (k : ℕ) (x : Looked) : Type 0 where
   pub mask-is : Marks (λ j. named (book-of b) j k) (x .mask)
   pub quote-is : Keeps (quote (book-of b) k) (x .number) (x .over)
 
--- The routines below k are.
+-- Every routine below k is looked at, and what is told of it stands in the rows.
 pub record Looked-below (b : List ℕ) (k : ℕ) (lengths masks numbers : List ℕ) (overs : List Bool) : Type 0 where
   pub lengths-are : Row (flat-length (book-of b)) length-cap k lengths
   pub masks-are : Masks b k masks

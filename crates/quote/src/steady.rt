@@ -47,26 +47,7 @@ fn line_steady(
     }
 }
 
-// A routine is steady if its lines are.
-fn lines_steady(b: &[u8], counts: Counts, masks: &[u32], tested: &[bool], mark: u16, k: u16) -> bool
-    requires { ⌜ Taken-with (now b) counts ⌝ }
-    requires { ⌜ Masks (now b) (counts .routines) (now masks) ⌝ }
-    requires { ⌜ Tested (now b) mark (now tested) ⌝ }
-    requires { ⌜ k < counts .routines ⌝ }
-    ensures { λ r. ⌜ r ≡ steady (book-of (now (b .entry))) k ⌝ }
-{
-    let n = count(b, k);
-    let mut j: u16 = 0;
-    while j < n {
-        if !line_steady(b, counts, masks, tested, mark, k, RoutineLine(j)) {
-            return false;
-        }
-        j += 1;
-    }
-    true
-}
-
-// A routine below the mark is answered from the row; of another the lines are tested.
+// A routine is steady if its lines are. One below the mark is in the row.
 fn routine_steady(
     b: &[u8],
     counts: Counts,
@@ -84,7 +65,15 @@ fn routine_steady(
     if k < mark {
         return tested[k as usize];
     }
-    lines_steady(b, counts, masks, tested, mark, k)
+    let n = count(b, k);
+    let mut j: u16 = 0;
+    while j < n {
+        if !line_steady(b, counts, masks, tested, mark, k, RoutineLine(j)) {
+            return false;
+        }
+        j += 1;
+    }
+    true
 }
 
 // The test, over a row from the lowest routine up to the asked one.
@@ -97,7 +86,7 @@ pub(crate) fn is_steady(b: &[u8], counts: Counts, masks: &[u32], routine: u16) -
     let mut tested = [false; ROW];
     let mut k: u16 = 0;
     while k <= routine {
-        let answer = lines_steady(b, counts, masks, &tested, k, k);
+        let answer = routine_steady(b, counts, masks, &tested, k, k);
         tested[k as usize] = answer;
         k += 1;
     }

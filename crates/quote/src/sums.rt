@@ -9,16 +9,17 @@ ghost use Rattle.quote.specs.Sums.{Keeps, Added, Repeated, Numbers, Over
 use book::header::Counts;
 use book::lines::Line;
 use book::lines::RoutineLine;
+use book::lines::TOP;
 use book::lines::line_at;
 
 // 19 QUOTE: quote above 2^64-1.
 const MOST_QUOTE: u64 = 18446744073709551615;
 
-// What a register counts to.
-const TOP: u64 = 65535;
+// REPEAT goes round as often as a register counts.
+const ROUNDS: u64 = TOP as u64;
 
-// The largest quote that a REPEAT can take without being over: TOP * (MOST_REPEATED + 2) + 1 is at most MOST_QUOTE.
-const MOST_REPEATED: u64 = (MOST_QUOTE - 1) / TOP - 2;
+// The largest quote that can be repeated without being over: ROUNDS * (MOST_REPEATED + 2) + 1 is at most MOST_QUOTE.
+const MOST_REPEATED: u64 = (MOST_QUOTE - 1) / ROUNDS - 2;
 
 // The number counts only where it is not over.
 pub(crate) struct Sum {
@@ -73,7 +74,7 @@ fn repeated(a: Sum) -> Sum
     if MOST_REPEATED < n {
         return too_much();
     }
-    exactly(TOP * (n + 2) + 1)
+    exactly(ROUNDS * (n + 2) + 1)
 }
 
 // The quote: INC, DEC, GO TO 1; CALL the routine's quote; REPEAT 65,535 x (quote + 2) + 1.

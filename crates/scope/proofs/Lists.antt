@@ -69,7 +69,7 @@ listed-map g f h i (suc n) same = rw (same i (omega arith), listed-map g f h (su
 -- What is said of a list by joining what is said of its members: of the first i + 1 it is said by one more joining at the end.
 module _ {A B : Type 0} (said : List B → A) (of-one : B → A) (join : A → A → A) (first-joined : (x : B) (xs : List B) → said (x ∷ xs) ≡ join (of-one x) (said xs))
     (none-before : (a : A) → join (said []) a ≡ a) (none-behind : (a : A) → join a (said []) ≡ a)
-    (in-any-order : (a b c : A) → join a (join b c) ≡ join (join a b) c) where
+    (grouped-either-way : (a b c : A) → join a (join b c) ≡ join (join a b) c) where
   pub said-to-the-next : {y : B} {rest : List B} (xs : List B) (i : ℕ) → drop i xs ≡ y ∷ rest
       → said (take (suc i) xs) ≡ join (said (take i xs)) (of-one y)
   said-to-the-next [] i e = nothing-stands i e
@@ -79,5 +79,5 @@ module _ {A B : Type 0} (said : List B → A) (of-one : B → A) (join : A → A
   said-to-the-next {y} (x ∷ xs) (suc i) e =
       first-joined x (take (suc i) xs)
       ∙ ap (join (of-one x)) (said-to-the-next xs i e)
-      ∙ in-any-order (of-one x) (said (take i xs)) (of-one y)
+      ∙ grouped-either-way (of-one x) (said (take i xs)) (of-one y)
       ∙ ap (λ a. join a (of-one y)) (sym (first-joined x (take i xs)))

@@ -48,7 +48,7 @@ pub record Quote-is-enough (book : Book) (k budget : ℕ) (rs : Registers) : Typ
   pub nested : Ends-within (quote book k) (nested-run book k budget rs)
   pub flat : Ends-within (quote book k) (flat-run (flat-program book k) 0 budget rs)
 
--- The call that runs answers how a run ended that ended so.
+-- The call is accepted, and answers a run that ended by itself after at most so many steps.
 pub record Answers-within (most : ℕ) (c : Call Ran Registers) : Type 0 where
   pub end : End ℕ
   pub answers : c ≡ run-answering end

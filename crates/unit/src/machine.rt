@@ -16,11 +16,10 @@ use book::flat::Instruction;
 use book::flat::instruction_at;
 use book::header::Counts;
 use book::lines::Reg;
+use book::lines::TOP;
 
 // ours has 32 of 0 to 65,535
 pub const REGISTERS: usize = 32;
-
-const TOP: u16 = 65535;
 
 // The outcome carries the full register's number when it is FULL.
 pub enum Outcome {

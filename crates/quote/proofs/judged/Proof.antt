@@ -4,8 +4,9 @@ use borrow.Author.Needs.{needs}
 use Rattle.quote.proofs.judged.Statement.{statement}
 use Rattle.quote.proofs.judged.Tie as tie
 use Rattle.book.specs.Told.{name-told}
+use Rattle.flatten.proofs.Rows.{has-a-place}
 use Rattle.flatten.proofs.Answers.{routine-fits}
-use Rattle.quote.proofs.Answers.{lengths-known, does-not-flatten, asked-is-there, number-there, over-there, number-fits, not-steady, over-quoted, quote-in-the-row}
+use Rattle.quote.proofs.Answers.{lengths-known, does-not-flatten, asked-is-there, number-fits, not-steady, over-quoted, quote-in-the-row}
 
 flattens-requires : tie.Need-flattens-requires
 flattens-requires c κs = (search needs, search lengths-known)
@@ -33,7 +34,7 @@ unfolding name-told
 returns-2 c = search not-steady
 
 shared-slice-read-if2 : tie.Need-shared-slice-read-if2
-shared-slice-read-if2 c = search over-there
+shared-slice-read-if2 c = search (has-a-place, asked-is-there)
 
 of-requires-2 : tie.Need-of-requires-2
 of-requires-2 c κs = search needs
@@ -46,7 +47,7 @@ mul-t18 : tie.Need-mul-t18
 mul-t18 c = search number-fits
 
 shared-slice-read-t20 : tie.Need-shared-slice-read-t20
-shared-slice-read-t20 c = search number-there
+shared-slice-read-t20 c = search (has-a-place, asked-is-there)
 
 returns-4 : tie.Need-returns-4
 returns-4 c = search quote-in-the-row

@@ -15,11 +15,11 @@ abbrev μ-loop : tie.MeasureT-loop
 loop-holds : tie.Need-loop-holds Inv-loop μ-loop
 loop-holds c = search no-answer-yet
 
-slice-aggregate-lines-steady : tie.Need-slice-aggregate-lines-steady Inv-loop μ-loop
-slice-aggregate-lines-steady c = search needs
+slice-aggregate-routine-steady : tie.Need-slice-aggregate-routine-steady Inv-loop μ-loop
+slice-aggregate-routine-steady c = search needs
 
-lines-steady-requires : tie.Need-lines-steady-requires Inv-loop μ-loop
-lines-steady-requires c κs = (search needs, (search needs, (search needs, search routine-there)))
+routine-steady-requires : tie.Need-routine-steady-requires Inv-loop μ-loop
+routine-steady-requires c κs = (search needs, (search needs, (search needs, search routine-there)))
 
 cast-tested : tie.Need-cast-tested Inv-loop μ-loop
 cast-tested c = search needs
@@ -49,8 +49,8 @@ is-steady-spec =
     Inv-loop
     μ-loop
     loop-holds
-    slice-aggregate-lines-steady
-    lines-steady-requires
+    slice-aggregate-routine-steady
+    routine-steady-requires
     cast-tested
     array-write-tested
     add-k

@@ -2,7 +2,6 @@
 -- It is at most 2^64-1. Assumes nothing.
 use Rattle.quote.proofs.sums.exactly.Statement.{statement}
 use Rattle.quote.proofs.sums.exactly.Tie as tie
-use borrow.Author.Needs.{needs}
 use Rattle.quote.proofs.Keeping.{a-number-is-kept}
 
 returns : tie.Need-returns

@@ -1,37 +1,31 @@
--- `steady::line_steady`, `steady::lines_steady` and `steady::routine_steady` tell whether a line, a routine's lines and a routine are steady.
+-- `steady::line_steady` and `steady::routine_steady` tell whether a line and a routine are steady.
 -- The routine number falls, then in the loop the lines left (`Steady-to`); a routine below the mark is looked up. Assumes nothing.
 use Prim.Native.Nat.{ℕ, _+_, _*_, _-_, _<_}
 use borrow.Fn.Kinds.{In}
 use borrow.Fn.PlainCycle.{Measures, is, falls, and}
 use Rattle.quote.proofs.steady.line_steady.Reads as line-steady
 use Rattle.quote.proofs.steady.line_steady.Kinds as line-steady-kinds
-use Rattle.quote.proofs.steady.+line_steady+lines_steady+routine_steady.Lts-line_steady as line-steady-lts
-use Rattle.quote.proofs.steady.lines_steady.Reads as lines-steady
-use Rattle.quote.proofs.steady.lines_steady.Kinds as lines-steady-kinds
-use Rattle.quote.proofs.steady.+line_steady+lines_steady+routine_steady.Lts-lines_steady as lines-steady-lts
+use Rattle.quote.proofs.steady.+line_steady+routine_steady.Lts-line_steady as line-steady-lts
 use Rattle.quote.proofs.steady.routine_steady.Reads as routine-steady
 use Rattle.quote.proofs.steady.routine_steady.Kinds as routine-steady-kinds
-use Rattle.quote.proofs.steady.+line_steady+lines_steady+routine_steady.Lts-routine_steady as routine-steady-lts
+use Rattle.quote.proofs.steady.+line_steady+routine_steady.Lts-routine_steady as routine-steady-lts
 use Rattle.book.proofs.lines.line_at.Reads as line-at-reads
 use Rattle.book.proofs.table.count.Reads as count-reads
 use Rattle.quote.proofs.naming.has.Reads as has-reads
-use Rattle.quote.proofs.steady.+line_steady+lines_steady+routine_steady.{statement}
-use Rattle.quote.proofs.steady.+line_steady+lines_steady+routine_steady.Tie.{close}
+use Rattle.quote.proofs.steady.+line_steady+routine_steady.{statement}
+use Rattle.quote.proofs.steady.+line_steady+routine_steady.Tie.{close}
 use borrow.Author.Needs.{needs}
 use Rattle.scope.specs.Quote as paper
 use Rattle.book.specs.Told.{line-told}
 use Rattle.book.proofs.Fits.{REPEAT-register}
-use Rattle.flatten.proofs.Rows.{line-is-there}
-use Rattle.quote.proofs.Steadiness.{said-of-the-line, CALL-there, CALL-falls, REPEAT-there, REPEAT-falls, REPEAT-has-a-mask, REPEAT-of-a-named, REPEAT-steady, Steady-to, routine-has-an-answer, answer-in-the-row, line-falls, lines-fall, all-lines-left, no-line-left, one-more-steady, an-unsteady-line}
+use Rattle.flatten.proofs.Rows.{line-is-there, has-a-place}
+use Rattle.quote.proofs.Steadiness.{said-of-the-line, CALL-there, CALL-falls, REPEAT-there, REPEAT-falls, REPEAT-of-a-named, REPEAT-steady, Steady-to, answer-in-the-row, line-falls, all-lines-left, no-line-left, one-more-steady, an-unsteady-line}
 
 abbrev μ-line-steady : Measures 3 line-steady-kinds.ps ℕ
-μ-line-steady κs a = 3 * a .1 .1 .1 .1 .1 .0
-
-abbrev μ-lines-steady : Measures 3 lines-steady-kinds.ps ℕ
-μ-lines-steady κs a = 3 * a .1 .1 .1 .1 .1 .0 + 1
+μ-line-steady κs a = 2 * a .1 .1 .1 .1 .1 .0
 
 abbrev μ-routine-steady : Measures 3 routine-steady-kinds.ps ℕ
-μ-routine-steady κs a = 3 * a .1 .1 .1 .1 .1 .0 + 2
+μ-routine-steady κs a = 2 * a .1 .1 .1 .1 .1 .0 + 1
 
 abbrev line-steady-at : ℕ → In 3 line-steady-kinds.ps
 line-steady-at t =
@@ -40,18 +34,6 @@ line-steady-at t =
 abbrev line-steady-below : ℕ → In 3 line-steady-kinds.ps
 line-steady-below t =
     and 3 line-steady-kinds.ps (falls 3 line-steady-kinds.ps _<_ μ-line-steady t) line-steady.Pre
-
-abbrev lines-steady-at : ℕ → In 3 lines-steady-kinds.ps
-lines-steady-at t =
-    and 3 lines-steady-kinds.ps (is 3 lines-steady-kinds.ps μ-lines-steady t) lines-steady.Pre
-
-abbrev lines-steady-below : ℕ → In 3 lines-steady-kinds.ps
-lines-steady-below t =
-    and
-    3
-    lines-steady-kinds.ps
-    (falls 3 lines-steady-kinds.ps _<_ μ-lines-steady t)
-    lines-steady.Pre
 
 abbrev routine-steady-at : ℕ → In 3 routine-steady-kinds.ps
 routine-steady-at t =
@@ -167,7 +149,7 @@ line-steady-shared-slice-read-has : (t : ℕ) → line-steady-lts.Need-shared-sl
   has-reads.Asked,
   has-reads.Learnt,
 ) (line-steady-at t) line-steady.Post
-line-steady-shared-slice-read-has t c = search REPEAT-has-a-mask
+line-steady-shared-slice-read-has t c = search (has-a-place, REPEAT-there)
 
 line-steady-has-requires : (t : ℕ) → line-steady-lts.Need-has-requires (
   line-at-reads.Asked,
@@ -253,111 +235,102 @@ line-steady-returns-6 : (t : ℕ) → line-steady-lts.Need-returns-6 (
 ) (line-steady-at t) line-steady.Post
 line-steady-returns-6 t c = search REPEAT-steady
 
-abbrev lines-steady-Inv-loop : lines-steady-lts.InvT-loop
-lines-steady-Inv-loop b counts masks tested mark k n j₀ j = Steady-to b k n j
+abbrev routine-steady-Inv-loop : routine-steady-lts.InvT-loop
+routine-steady-Inv-loop b counts masks tested mark k n j₀ j = Steady-to b k n j
 
-abbrev lines-steady-μ-loop : lines-steady-lts.MeasureT-loop
-lines-steady-μ-loop b counts masks tested mark k n j₀ j = n - j
-
-lines-steady-count-requires : (t : ℕ) → lines-steady-lts.Need-count-requires (
-  count-reads.Asked,
-  count-reads.Learnt,
-  line-steady-below t,
-  line-steady.Post,
-) (lines-steady-at t) lines-steady.Post lines-steady-Inv-loop lines-steady-μ-loop
-lines-steady-count-requires t c κs = search needs
-
-lines-steady-loop-holds : (t : ℕ) → lines-steady-lts.Need-loop-holds (
-  count-reads.Asked,
-  count-reads.Learnt,
-  line-steady-below t,
-  line-steady.Post,
-) (lines-steady-at t) lines-steady.Post lines-steady-Inv-loop lines-steady-μ-loop
-lines-steady-loop-holds t c = search all-lines-left
-
-lines-steady-line-steady-requires : (t : ℕ) → lines-steady-lts.Need-line-steady-requires (
-  count-reads.Asked,
-  count-reads.Learnt,
-  line-steady-below t,
-  line-steady.Post,
-) (lines-steady-at t) lines-steady.Post lines-steady-Inv-loop lines-steady-μ-loop
-lines-steady-line-steady-requires t c κs = (search line-falls, (search needs, (search needs, (search needs, (search needs, search line-is-there)))))
-
-lines-steady-returns : (t : ℕ) → lines-steady-lts.Need-returns (
-  count-reads.Asked,
-  count-reads.Learnt,
-  line-steady-below t,
-  line-steady.Post,
-) (lines-steady-at t) lines-steady.Post lines-steady-Inv-loop lines-steady-μ-loop
-lines-steady-returns t c = search an-unsteady-line
-
-lines-steady-add-j : (t : ℕ) → lines-steady-lts.Need-add-j (
-  count-reads.Asked,
-  count-reads.Learnt,
-  line-steady-below t,
-  line-steady.Post,
-) (lines-steady-at t) lines-steady.Post lines-steady-Inv-loop lines-steady-μ-loop
-lines-steady-add-j t c = search needs
-
-lines-steady-loop-less : (t : ℕ) → lines-steady-lts.Need-loop-less (
-  count-reads.Asked,
-  count-reads.Learnt,
-  line-steady-below t,
-  line-steady.Post,
-) (lines-steady-at t) lines-steady.Post lines-steady-Inv-loop lines-steady-μ-loop
-lines-steady-loop-less t c = search needs
-
-lines-steady-loop-again : (t : ℕ) → lines-steady-lts.Need-loop-again (
-  count-reads.Asked,
-  count-reads.Learnt,
-  line-steady-below t,
-  line-steady.Post,
-) (lines-steady-at t) lines-steady.Post lines-steady-Inv-loop lines-steady-μ-loop
-lines-steady-loop-again t c = search one-more-steady
-
-lines-steady-returns-2 : (t : ℕ) → lines-steady-lts.Need-returns-2 (
-  count-reads.Asked,
-  count-reads.Learnt,
-  line-steady-below t,
-  line-steady.Post,
-) (lines-steady-at t) lines-steady.Post lines-steady-Inv-loop lines-steady-μ-loop
-lines-steady-returns-2 t c = search no-line-left
+abbrev routine-steady-μ-loop : routine-steady-lts.MeasureT-loop
+routine-steady-μ-loop b counts masks tested mark k n j₀ j = n - j
 
 routine-steady-shared-slice-read-result :
     (t : ℕ) → routine-steady-lts.Need-shared-slice-read-result (
-      lines-steady-below t,
-      lines-steady.Post,
-    ) (routine-steady-at t) routine-steady.Post
-routine-steady-shared-slice-read-result t c = search routine-has-an-answer
+      count-reads.Asked,
+      count-reads.Learnt,
+      line-steady-below t,
+      line-steady.Post,
+    ) (routine-steady-at t) routine-steady.Post routine-steady-Inv-loop routine-steady-μ-loop
+routine-steady-shared-slice-read-result t c = search has-a-place
 
 routine-steady-returns : (t : ℕ) → routine-steady-lts.Need-returns (
-  lines-steady-below t,
-  lines-steady.Post,
-) (routine-steady-at t) routine-steady.Post
+  count-reads.Asked,
+  count-reads.Learnt,
+  line-steady-below t,
+  line-steady.Post,
+) (routine-steady-at t) routine-steady.Post routine-steady-Inv-loop routine-steady-μ-loop
 routine-steady-returns t c = search answer-in-the-row
 
-routine-steady-lines-steady-requires : (t : ℕ) → routine-steady-lts.Need-lines-steady-requires (
-  lines-steady-below t,
-  lines-steady.Post,
-) (routine-steady-at t) routine-steady.Post
-routine-steady-lines-steady-requires t c κs = (search lines-fall, (search needs, (search needs, (search needs, search needs))))
+routine-steady-count-requires : (t : ℕ) → routine-steady-lts.Need-count-requires (
+  count-reads.Asked,
+  count-reads.Learnt,
+  line-steady-below t,
+  line-steady.Post,
+) (routine-steady-at t) routine-steady.Post routine-steady-Inv-loop routine-steady-μ-loop
+routine-steady-count-requires t c κs = search needs
+
+routine-steady-loop-holds : (t : ℕ) → routine-steady-lts.Need-loop-holds (
+  count-reads.Asked,
+  count-reads.Learnt,
+  line-steady-below t,
+  line-steady.Post,
+) (routine-steady-at t) routine-steady.Post routine-steady-Inv-loop routine-steady-μ-loop
+routine-steady-loop-holds t c = search all-lines-left
+
+routine-steady-line-steady-requires : (t : ℕ) → routine-steady-lts.Need-line-steady-requires (
+  count-reads.Asked,
+  count-reads.Learnt,
+  line-steady-below t,
+  line-steady.Post,
+) (routine-steady-at t) routine-steady.Post routine-steady-Inv-loop routine-steady-μ-loop
+routine-steady-line-steady-requires t c κs = (search line-falls, (search needs, (search needs, (search needs, (search needs, search line-is-there)))))
 
 routine-steady-returns-2 : (t : ℕ) → routine-steady-lts.Need-returns-2 (
-  lines-steady-below t,
-  lines-steady.Post,
-) (routine-steady-at t) routine-steady.Post
-routine-steady-returns-2 t c = search needs
+  count-reads.Asked,
+  count-reads.Learnt,
+  line-steady-below t,
+  line-steady.Post,
+) (routine-steady-at t) routine-steady.Post routine-steady-Inv-loop routine-steady-μ-loop
+routine-steady-returns-2 t c = search an-unsteady-line
 
-pub +line-steady+lines-steady+routine-steady-spec : {M : Type 1} → statement M
-+line-steady+lines-steady+routine-steady-spec =
-    close μ-line-steady μ-lines-steady μ-routine-steady (λ t. line-steady-lts.spec (
-      line-at-reads.Asked,
-      line-at-reads.Learnt,
-      routine-steady-below t,
-      routine-steady.Post,
-      has-reads.Asked,
-      has-reads.Learnt,
-    )
+routine-steady-add-j : (t : ℕ) → routine-steady-lts.Need-add-j (
+  count-reads.Asked,
+  count-reads.Learnt,
+  line-steady-below t,
+  line-steady.Post,
+) (routine-steady-at t) routine-steady.Post routine-steady-Inv-loop routine-steady-μ-loop
+routine-steady-add-j t c = search needs
+
+routine-steady-loop-less : (t : ℕ) → routine-steady-lts.Need-loop-less (
+  count-reads.Asked,
+  count-reads.Learnt,
+  line-steady-below t,
+  line-steady.Post,
+) (routine-steady-at t) routine-steady.Post routine-steady-Inv-loop routine-steady-μ-loop
+routine-steady-loop-less t c = search needs
+
+routine-steady-loop-again : (t : ℕ) → routine-steady-lts.Need-loop-again (
+  count-reads.Asked,
+  count-reads.Learnt,
+  line-steady-below t,
+  line-steady.Post,
+) (routine-steady-at t) routine-steady.Post routine-steady-Inv-loop routine-steady-μ-loop
+routine-steady-loop-again t c = search one-more-steady
+
+routine-steady-returns-3 : (t : ℕ) → routine-steady-lts.Need-returns-3 (
+  count-reads.Asked,
+  count-reads.Learnt,
+  line-steady-below t,
+  line-steady.Post,
+) (routine-steady-at t) routine-steady.Post routine-steady-Inv-loop routine-steady-μ-loop
+routine-steady-returns-3 t c = search no-line-left
+
+pub +line-steady+routine-steady-spec : {M : Type 1} → statement M
++line-steady+routine-steady-spec = close μ-line-steady μ-routine-steady (λ t. line-steady-lts.spec (
+  line-at-reads.Asked,
+  line-at-reads.Learnt,
+  routine-steady-below t,
+  routine-steady.Post,
+  has-reads.Asked,
+  has-reads.Learnt,
+)
     (line-steady-at t)
     line-steady.Post
     (line-steady-line-at-requires t)
@@ -378,29 +351,19 @@ pub +line-steady+lines-steady+routine-steady-spec : {M : Type 1} → statement M
     (line-steady-returns-4 t)
     (line-steady-returns-5 t)
     (line-steady-returns-6 t))
-    (λ t. lines-steady-lts.spec (
-      count-reads.Asked,
-      count-reads.Learnt,
-      line-steady-below t,
-      line-steady.Post,
-    )
-    (lines-steady-at t)
-    lines-steady.Post
-    lines-steady-Inv-loop
-    lines-steady-μ-loop
-    (lines-steady-count-requires t)
-    (lines-steady-loop-holds t)
-    (lines-steady-line-steady-requires t)
-    (lines-steady-returns t)
-    (lines-steady-add-j t)
-    (lines-steady-loop-less t)
-    (lines-steady-loop-again t)
-    (lines-steady-returns-2 t))
     λ t. routine-steady-lts.spec
-    (lines-steady-below t, lines-steady.Post)
+    (count-reads.Asked, count-reads.Learnt, line-steady-below t, line-steady.Post)
     (routine-steady-at t)
     routine-steady.Post
+    routine-steady-Inv-loop
+    routine-steady-μ-loop
     (routine-steady-shared-slice-read-result t)
     (routine-steady-returns t)
-    (routine-steady-lines-steady-requires t)
+    (routine-steady-count-requires t)
+    (routine-steady-loop-holds t)
+    (routine-steady-line-steady-requires t)
     (routine-steady-returns-2 t)
+    (routine-steady-add-j t)
+    (routine-steady-loop-less t)
+    (routine-steady-loop-again t)
+    (routine-steady-returns-3 t)
