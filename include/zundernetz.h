@@ -49,9 +49,9 @@ struct zn_quote_answer {
 };
 
 /* Quotes one routine of a book, with all that it uses. The quote is a budget that is enough: a run of the routine's flat program from line
-   0 with at least so many steps never ends OUT OF STEPS, whatever the registers hold. A routine that is not steady has no quote, and is
-   refused with 18. Nothing is written. It takes some 1 KB of stack. What the caller owes: book points to book_len bytes; where the length
-   is 0 the pointer may be NULL. Any bytes and numbers may be given. */
+   0 with at least so many steps ends FINISHED or FULL and never OUT OF STEPS, whatever the registers hold. A routine that is not steady has
+   no quote, and is refused with 18. Nothing is written. It takes some 1.2 KB of stack. What the caller owes: book points to book_len bytes;
+   where the length is 0 the pointer may be NULL. Any bytes and numbers may be given. */
 struct zn_quote_answer zn_quote(const uint8_t *book, size_t book_len, size_t routine);
 
 #ifdef __cplusplus

@@ -5,8 +5,8 @@
 
 #include "books.h"
 
-/* What a call has for its stack. It opens up to 32 routines inside one another, and a routine has up to 4,096 lines. */
-enum { SMALL_STACK = 4 * 1024 };
+/* What a call has for its stack. A test that went down a call for each line would need a hundred times as much: a routine has up to 4,096. */
+enum { SMALL_STACK = 2 * 1024 };
 
 /* The routine is accepted with this quote. */
 int quotes(const struct book *b, size_t routine, uint64_t quote);
