@@ -37,7 +37,7 @@ fn line_steady(
         Line::Inc(_) => true,
         Line::Dec(_, t) => j.0 < t.0,
         Line::GoTo(t) => j.0 < t.0,
-        Line::Call(c) => { routine_steady(b, counts, masks, tested, mark, c) }
+        Line::Call(c) => routine_steady(b, counts, masks, tested, mark, c),
         Line::Repeat(r, c) => {
             if has(masks[c as usize], r) {
                 return false;
@@ -47,7 +47,8 @@ fn line_steady(
     }
 }
 
-// A routine is steady if its lines are. One below the mark is in the row.
+// A routine is steady if its lines are. One below the mark is in the row. From here to a line and on to the routine that it uses the
+// number falls; in the loop the lines left.
 fn routine_steady(
     b: &[u8],
     counts: Counts,

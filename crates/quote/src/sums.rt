@@ -27,6 +27,7 @@ pub(crate) struct Sum {
     pub(crate) over: bool,
 }
 
+// What 64 bits hold.
 fn exactly(number: u64) -> Sum
     ensures { λ r. ⌜ Keeps number (r .number) (r .over) ⌝ }
 {
@@ -36,6 +37,7 @@ fn exactly(number: u64) -> Sum
     }
 }
 
+// What they do not hold.
 fn too_much() -> Sum
     ensures { λ r. ⌜ r .over ≡ true ⌝ }
 {
