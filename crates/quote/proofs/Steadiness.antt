@@ -78,18 +78,17 @@ module _ (b : List ℕ) (c : Counts) (l : Line) (k j : ℕ) (t : Taken-with b c)
     pub REPEAT-falls : (m : ℕ) → 2 * k ≡ m → 2 * q + 1 < m
     REPEAT-falls m f = omega (arith, lower, f)
 
-    module _ (masks : List ℕ) (w : Masks b (c .routines) masks) where
-      module _ (marked : Bool) (tells : marked ≡ bit (g .0) (getD masks q 0)) where
-        its-register : {x : Bool} → marked ≡ x → named (book-of b) (g .0) q ≡ x
-        its-register f = sym (w .each q REPEAT-there .each (g .0)) ∙ sym tells ∙ f
+    module _ (masks : List ℕ) (w : Masks b (c .routines) masks) (marked : Bool) (tells : marked ≡ bit (g .0) (getD masks q 0)) where
+      its-register : {x : Bool} → marked ≡ x → named (book-of b) (g .0) q ≡ x
+      its-register f = sym (w .each q REPEAT-there .each (g .0)) ∙ sym tells ∙ f
 
-        pub REPEAT-of-a-named : marked ≡ true → false ≡ of-this-line
-        unfolding line-steady line-told
-        REPEAT-of-a-named f = said-of-the-line false d (rw (its-register f) (sym (and-false (steady (book-of b) q))))
+      pub REPEAT-of-a-named : marked ≡ true → false ≡ of-this-line
+      unfolding line-steady line-told
+      REPEAT-of-a-named f = said-of-the-line false d (rw (its-register f) (sym (and-false (steady (book-of b) q))))
 
-        pub REPEAT-steady : marked ≡ false → (r : Bool) → r ≡ steady (book-of b) q → r ≡ of-this-line
-        unfolding line-steady line-told
-        REPEAT-steady f r y = said-of-the-line r d (rw (its-register f) (y ∙ sym (and-true (steady (book-of b) q))))
+      pub REPEAT-steady : marked ≡ false → (r : Bool) → r ≡ steady (book-of b) q → r ≡ of-this-line
+      unfolding line-steady line-told
+      REPEAT-steady f r y = said-of-the-line r d (rw (its-register f) (y ∙ sym (and-true (steady (book-of b) q))))
 
 -- ---- a routine
 
