@@ -6,10 +6,10 @@ use native.Mathlib.Numerals.{add-one}
 use mathlib.Core.Path.{_≡_, refl, sym, _∙_}
 use mathlib.Core.Logic.{⊎-elim}
 use mathlib.Core.List.{List, _∷_}
-use lib.ListN.{length, getD, set, take, drop}
+use lib.ListN.{getD, take, drop}
 use Rattle.scope.specs.Words.{_above_}
 use Rattle.scope.specs.Book as book
-use Rattle.scope.specs.Book.{most-routines, routines, count, line-of, fields-in, routine, book-of, used}
+use Rattle.scope.specs.Book.{routines, count, line-of, fields-in, routine, book-of, used}
 use Rattle.scope.specs.Flattening.{most-open, deepest, depth-by, depth}
 use Rattle.scope.proofs.Verdicts.{one-holds, above-tells}
 use Rattle.scope.proofs.Lists.{said-to-the-next}
@@ -24,7 +24,7 @@ use Rattle.book.specs.Asked.{Taken-with}
 use Rattle.book.proofs.Scanned.{below-R}
 use Rattle.flatten.specs.Rows.{Row}
 use Rattle.flatten.specs.Depths.{depth-cap}
-use Rattle.flatten.proofs.Rows.{said-of-the-line, CALL-looked-up, REPEAT-looked-up, empty-row, one-more-routine}
+use Rattle.flatten.proofs.Rows.{said-of-the-line, CALL-looked-up, REPEAT-looked-up, Known-to}
 
 -- ---- a line
 
@@ -83,33 +83,17 @@ module _ (b : List ℕ) (c : Counts) (k n : ℕ) (t : Taken-with b c) (h : k < c
 -- ---- the row
 
 -- The depths of the routines below k, up to the asked one.
-pub record Depths-to (b : List ℕ) (routine k : ℕ) (depths : List ℕ) : Type 0 where
-  pub upto : k ≤ routine + 1
-  pub depths-are : Row (depth (book-of b)) depth-cap k depths
+abbrev pub Depths-to : (b : List ℕ) (routine k : ℕ) (depths : List ℕ) → Type 0
+Depths-to b = Known-to 0 (λ c n. n ≡ min (depth (book-of b) c) depth-cap)
 
-pub no-depth-yet : (b : List ℕ) (routine : ℕ) (depths : List ℕ) → length depths ≡ most-routines → Depths-to b routine 0 depths
-no-depth-yet b routine depths long = record { upto = omega arith; depths-are = empty-row 0 _ depths long }
-
-module _ (b : List ℕ) (c : Counts) (t : Taken-with b c) (routine k : ℕ) (h : routine < c .routines) (depths : List ℕ)
-    (s : Depths-to b routine k depths) where
-  pub routine-there : k ≤ routine → k < c .routines
-  routine-there g = omega (arith, g, h)
-
-  pub one-more-depth : (d : ℕ) → k ≤ routine → d ≡ min (depth (book-of b) k) depth-cap → Depths-to b routine (k + 1) (set depths k d)
-  one-more-depth d g e =
-      record {
-        upto = omega (arith, g);
-        depths-are =
-            one-more-routine 0 _ depths k d (s .depths-are) (omega (arith, g, h, t .tabled .sized .routines-to-32)) e;
-      }
-
-  -- Stopped above 32, a depth is above 32 where it was.
-  pub too-deep-tells : routine < k → (getD depths routine 0 above most-open) ≡ (depth (book-of b) routine above most-open)
-  too-deep-tells g =
-      let m = getD depths routine 0 in
-      let n = depth (book-of b) routine in
-      let stopped = s .depths-are .each routine g in
-      ⊎-elim
-      (λ (deep : most-open < m). above-tells m most-open .when-true .1 deep ∙ sym (above-tells n most-open .when-true .1 (omega (arith, deep, stopped))))
-      (λ (flat : m ≤ most-open). above-tells m most-open .when-false .1 flat ∙ sym (above-tells n most-open .when-false .1 (omega (arith, flat, stopped))))
-      (one-holds (above-tells m most-open))
+-- Stopped above 32, a depth is above 32 where it was.
+pub too-deep-tells : (b : List ℕ) (routine k : ℕ) (depths : List ℕ) → Depths-to b routine k depths → routine < k
+    → (getD depths routine 0 above most-open) ≡ (depth (book-of b) routine above most-open)
+too-deep-tells b routine k depths s g =
+    let m = getD depths routine 0 in
+    let n = depth (book-of b) routine in
+    let stopped = s .below .each routine g in
+    ⊎-elim
+    (λ (deep : most-open < m). above-tells m most-open .when-true .1 deep ∙ sym (above-tells n most-open .when-true .1 (omega (arith, deep, stopped))))
+    (λ (flat : m ≤ most-open). above-tells m most-open .when-false .1 flat ∙ sym (above-tells n most-open .when-false .1 (omega (arith, flat, stopped))))
+    (one-holds (above-tells m most-open))

@@ -45,6 +45,26 @@ module _ {A : Type 0} (none : A) (Is : ℕ → A → Type 0) (row : List A) wher
       put c low (yes same) = rw (same, getD-set-same row k a none (omega (arith, h, w .long))) e
       put c low (no other) = rw (getD-set-other row k c a none other) (w .each c (omega (arith, low, other)))
 
+-- A row that is filled up to the asked routine: what is known of those below k.
+pub record Known-to {A : Type 0} (none : A) (Is : ℕ → A → Type 0) (asked k : ℕ) (row : List A) : Type 0 where
+  pub upto : k ≤ asked + 1
+  pub below : Known none Is k row
+
+module _ {A : Type 0} (none : A) (Is : ℕ → A → Type 0) (asked : ℕ) (row : List A) where
+  pub none-known-yet : length row ≡ most-routines → Known-to none Is asked 0 row
+  none-known-yet long = record { upto = omega arith; below = empty-row none Is row long }
+
+  module _ (b : List ℕ) (c : Counts) (t : Taken-with b c) (h : asked < c .routines) (k : ℕ) (s : Known-to none Is asked k row) where
+    pub up-to-the-asked : k ≤ asked → k < c .routines
+    up-to-the-asked g = omega (arith, g, h)
+
+    pub one-more-known : (a : A) → k ≤ asked → Is k a → Known-to none Is asked (k + 1) (set row k a)
+    one-more-known a g e =
+        record {
+          upto = omega (arith, g);
+          below = one-more-routine none Is row k a (s .below) (omega (arith, g, h, t .tabled .sized .routines-to-32)) e;
+        }
+
 -- Line j of routine k is l, and the row has what is said of the routines below k: so it has what is said of the one that the line uses.
 module _ (b : List ℕ) (c : Counts) (l : Line) (k j : ℕ) (t : Taken-with b c) (h : k < c .routines) (s : j < count b k)
     (e : line-told l ≡ line-of (fields-in b k j)) where

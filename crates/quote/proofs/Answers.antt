@@ -7,15 +7,16 @@ use native.Mathlib.Omega.{arith}
 use mathlib.Core.Bool.{Bool, true, false, not}
 use mathlib.Core.Path.{_≡_, refl, sym, _∙_, ap}
 use mathlib.Core.List.{List}
-use lib.ListN.{length, getD}
+use lib.ListN.{getD}
+use borrow.Author.Tests.{not-true, not-false}
 use Rattle.scope.specs.Refusals as paper
 use Rattle.scope.specs.Refusals.{NOT-STEADY, QUOTE, refusal, accepted, answer-of}
 use Rattle.scope.specs.Book.{routines, book-of, check-answer}
 use Rattle.scope.specs.Flattening.{flat-length, flattens-verdict}
-use Rattle.scope.specs.Quote.{steady, quote, most-quote, quote-answer}
+use Rattle.scope.specs.Quote.{steady, quote, quote-answer}
 use Rattle.scope.specs.SteadyWords.{Steady-routine}
 use Rattle.scope.specs.GivenByCalls.{to-flatten-the-book, Flattens, Given-quote, quote-before, quote-NOT-STEADY, quote-QUOTE}
-use Rattle.scope.proofs.Verdicts.{exactly-tells, above-tells}
+use Rattle.scope.proofs.Verdicts.{exactly-tells}
 use Rattle.scope.proofs.TakenBook.{taken-callees-below}
 use Rattle.scope.proofs.SteadyWords.{steady-exactly}
 use Rattle.scope.proofs.GivenExactlyWhen.{given-exactly-when}
@@ -34,8 +35,9 @@ use Rattle.flatten.specs.Rows.{length-cap, Row}
 use Rattle.flatten.proofs.Answers.{refused-as-given, it-passes}
 use Rattle.quote.specs.declared.Quoted.the-variants.{Steps, Refused}
 use Rattle.quote.specs.Told.{quoted-told}
+use Rattle.quote.specs.Sums.{Keeps}
 use Rattle.quote.specs.Looked.{Looked-below}
-use Rattle.quote.proofs.Steadiness.{so-true, so-false}
+use Rattle.quote.proofs.Keeping.{goes-above, within, the-number, kept-in-the-rows}
 
 refused-with : (b : List ℕ) (k : ℕ) (x : Refusal) {y : paper.Refusal} → refusal-told x ≡ y → Given-quote b k y
     → quoted-told (Refused x) ≡ quote-answer b k
@@ -62,6 +64,9 @@ module _ (b : List ℕ) (c : Counts) (t : Taken-with b c) (k : ℕ) (lengths mas
       pub asked-is-there : k < c .routines
       asked-is-there = omega (arith, flattens .a-routine, t .tabled .sized .counts .routines-are)
 
+      kept : Keeps (quote (book-of b) k) (getD numbers k 0) (getD overs k false)
+      kept = kept-in-the-rows b (c .routines) k numbers overs (w .numbers-are) (w .overs-are) asked-is-there
+
       pub number-fits : Fits w64 (k * 8)
       number-fits = record { fits = omega (arith, asked-is-there, t .tabled .sized .routines-to-32) }
 
@@ -70,20 +75,18 @@ module _ (b : List ℕ) (c : Counts) (t : Taken-with b c) (k : ℕ) (lengths mas
         not-steady x s e =
             refused-with b k x s
             (quote-NOT-STEADY flattens
-            (exactly-tells (steady-exactly (book-of b) (taken-callees-below b (t .taken)) k) .when-false .0 (sym tests ∙ so-false is-steady e)))
+            (exactly-tells (steady-exactly (book-of b) (taken-callees-below b (t .taken)) k) .when-false .0 (sym tests ∙ not-true is-steady e)))
 
         module _ (so : not is-steady ≡ false) where
           a-steady-one : Steady-routine (book-of b) k
-          a-steady-one = steady-exactly (book-of b) (taken-callees-below b (t .taken)) k .0 (sym tests ∙ so-true is-steady so)
+          a-steady-one = steady-exactly (book-of b) (taken-callees-below b (t .taken)) k .0 (sym tests ∙ not-false is-steady so)
 
           pub over-quoted : (x : Refusal) → refusal-told x ≡ refusal QUOTE 0 → getD overs k false ≡ true → quoted-told (Refused x) ≡ quote-answer b k
           over-quoted x s e =
-              refused-with b k x s
-              (quote-QUOTE flattens a-steady-one
-              (above-tells (quote (book-of b) k) most-quote .when-true .0 (sym (w .overs-are .each k asked-is-there) ∙ e)))
+              refused-with b k x s (quote-QUOTE flattens a-steady-one (goes-above kept e))
 
           pub quote-in-the-row : getD overs k false ≡ false → quoted-told (Steps (getD numbers k 0)) ≡ quote-answer b k
           unfolding quoted-told
           quote-in-the-row e =
-              let within = above-tells (quote (book-of b) k) most-quote .when-false .0 (sym (w .overs-are .each k asked-is-there) ∙ e) in
-              ap accepted (w .numbers-are .each k asked-is-there within) ∙ sym (quote-accepts b k (record { flattens = flattens; a-steady-one = a-steady-one; not-too-high = within }))
+              ap accepted (the-number kept e)
+              ∙ sym (quote-accepts b k (record { flattens = flattens; a-steady-one = a-steady-one; not-too-high = within kept e }))

@@ -5,7 +5,7 @@ use mir.Val.{Fits}
 use Prim.Native.Nat.{ℕ, _+_, _*_, _-_, _<_, _≤_}
 use native.Mathlib.Omega.{arith}
 use mathlib.Core.Bool.{Bool, true, false}
-use mathlib.Core.Path.{_≡_, refl, sym, _∙_, ap}
+use mathlib.Core.Path.{_≡_, refl, sym, _∙_}
 use mathlib.Core.List.{List}
 use lib.ListN.{getD}
 use Rattle.scope.specs.Book.{count, line-of, fields-in, book-of}
@@ -18,21 +18,20 @@ use Rattle.book.specs.declared.lines.Line.{Line}
 use Rattle.book.specs.declared.lines.Line.the-variants as line
 use Rattle.book.specs.Told.{line-told}
 use Rattle.book.specs.Asked.{Taken-with}
-use Rattle.book.proofs.Fits.{holds-of-the-line}
-use Rattle.flatten.proofs.Rows.{CALL-looked-up, REPEAT-looked-up}
+use Rattle.book.proofs.Fits.{holds-of-the-line, CALL-below, REPEAT-below}
 use Rattle.quote.specs.declared.sums.Sum.{Sum}
 use Rattle.quote.specs.Sums.{Keeps, Added, Repeated, Numbers, Overs}
 
 -- ---- what is kept
 
 module _ {q n : ℕ} {over : Bool} (w : Keeps q n over) where
-  goes-above : over ≡ true → most-quote < q
+  pub goes-above : over ≡ true → most-quote < q
   goes-above e = above-tells q most-quote .when-true .0 (sym (w .over-exactly) ∙ e)
 
-  within : over ≡ false → q ≤ most-quote
+  pub within : over ≡ false → q ≤ most-quote
   within e = above-tells q most-quote .when-false .0 (sym (w .over-exactly) ∙ e)
 
-  the-number : over ≡ false → n ≡ q
+  pub the-number : over ≡ false → n ≡ q
   the-number e = w .else-the-number (within e)
 
 kept-over : (q n : ℕ) (over : Bool) → over ≡ true → most-quote < q → Keeps q n over
@@ -44,6 +43,11 @@ kept-exactly q n e h = record { over-exactly = sym (above-tells q most-quote .wh
 
 pub a-number-is-kept : (n : ℕ) → Fits w64 n → Keeps n n false
 a-number-is-kept n h = kept-exactly n n refl (omega (arith, h .fits))
+
+-- What stands in the two rows keeps the quote.
+pub kept-in-the-rows : (b : List ℕ) (k q : ℕ) (numbers : List ℕ) (overs : List Bool) → Numbers b k numbers → Overs b k overs → q < k
+    → Keeps (quote (book-of b) q) (getD numbers q 0) (getD overs q false)
+kept-in-the-rows b k q numbers overs w o h = record { over-exactly = o .each q h; else-the-number = w .each q h }
 
 -- ---- sums
 
@@ -102,13 +106,11 @@ module _ (b : List ℕ) (c : Counts) (l : Line) (k j : ℕ) (t : Taken-with b c)
         → Keeps (line-quote (quote (book-of b)) (line-of (fields-in b k j))) (getD numbers q 0) (getD overs q false)
     unfolding line-quote line-told
     CALL-kept {q} d =
-        kept-of-the-line (getD numbers q 0) (getD overs q false) d
-        (record { over-exactly = CALL-looked-up b c l k j t h s e false _ overs o d; else-the-number = CALL-looked-up b c l k j t h s e 0 _ numbers w d })
+        kept-of-the-line (getD numbers q 0) (getD overs q false) d (kept-in-the-rows b k q numbers overs w o (CALL-below b c l k j t h s e d))
 
     pub REPEAT-kept : (r : Sum) {g : Reg} {q : ℕ} → l ≡ line.Repeat g q → Repeated (record { number = getD numbers q 0; over = getD overs q false }) r
         → Keeps (line-quote (quote (book-of b)) (line-of (fields-in b k j))) (r .number) (r .over)
     unfolding line-quote line-told
     REPEAT-kept r {q = q} d f =
         kept-of-the-line (r .number) (r .over) d
-        (f .keeps (quote (book-of b) q)
-        (record { over-exactly = REPEAT-looked-up b c l k j t h s e false _ overs o d; else-the-number = REPEAT-looked-up b c l k j t h s e 0 _ numbers w d }))
+        (f .keeps (quote (book-of b) q) (kept-in-the-rows b k q numbers overs w o (REPEAT-below b c l k j t h s e d)))

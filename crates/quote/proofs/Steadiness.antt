@@ -6,11 +6,11 @@ use native.Mathlib.Numerals.{add-one}
 use mathlib.Core.Bool.{Bool, true, false, not}
 use mathlib.Core.Path.{_≡_, refl, sym, _∙_, ap}
 use mathlib.Core.List.{List, []}
-use lib.ListN.{length, getD, set, drop}
+use lib.ListN.{getD, drop}
+use borrow.Author.Tests.{not-true, not-false}
 use Rattle.scope.specs.Words.{if, _and_}
-use Rattle.scope.specs.Book.{most-routines, routines, count, line-of, fields-in, routine, book-of}
+use Rattle.scope.specs.Book.{routines, count, line-of, fields-in, routine, book-of}
 use Rattle.scope.specs.Quote.{named, line-steady, lines-steady, steady-by, steady}
-use Rattle.scope.proofs.Verdicts.{itself-tells, not-tells}
 use Rattle.scope.proofs.Lowest.{steady-by-the-rule}
 use Rattle.scope.proofs.TakenBook.{taken-callees-below, line-in-the-book, routine-ends}
 use Rattle.book.specs.declared.header.Counts.{Counts}
@@ -21,15 +21,9 @@ use Rattle.book.specs.Told.{line-told}
 use Rattle.book.specs.Asked.{Taken-with}
 use Rattle.book.proofs.Scanned.{below-R}
 use Rattle.book.proofs.Fits.{holds-of-the-line, CALL-below, REPEAT-below}
-use Rattle.flatten.proofs.Rows.{empty-row, one-more-routine}
+use Rattle.flatten.proofs.Rows.{Known-to}
 use Rattle.quote.specs.Naming.{bit, Masks}
 use Rattle.quote.specs.Steadiness.{Tested}
-
-pub so-true : (x : Bool) → not x ≡ false → x ≡ true
-so-true x = not-tells (itself-tells x) .when-false .0
-
-pub so-false : (x : Bool) → not x ≡ true → x ≡ false
-so-false x = not-tells (itself-tells x) .when-true .0
 
 and-true : (x : Bool) → (x and true) ≡ x
 unfolding if
@@ -134,35 +128,19 @@ module _ (b : List ℕ) (c : Counts) (t : Taken-with b c) (k : ℕ) (h : k < c .
         pub one-more-steady : not first ≡ false → Steady-to b k n (j + 1)
         unfolding if
         one-more-steady f =
-            let so : first ≡ true = so-true first f in
+            let so : first ≡ true = not-false first f in
             record { upto = omega (arith, more); rest-decides = rw (add-one j) (rw so at by-the-line) }
 
         pub an-unsteady-line : not first ≡ true → false ≡ steady (book-of b) k
         unfolding if
-        an-unsteady-line f = let so : first ≡ false = so-false first f in sym (rw so at by-the-line)
+        an-unsteady-line f = let so : first ≡ false = not-true first f in sym (rw so at by-the-line)
 
 -- ---- the row
 
 -- The answers for the routines below k, up to the asked one.
-pub record Tested-to (b : List ℕ) (routine k : ℕ) (tested : List Bool) : Type 0 where
-  pub upto : k ≤ routine + 1
-  pub answers : Tested b k tested
+abbrev pub Tested-to : (b : List ℕ) (routine k : ℕ) (tested : List Bool) → Type 0
+Tested-to b = Known-to false (λ c answer. answer ≡ steady (book-of b) c)
 
-pub no-answer-yet : (b : List ℕ) (routine : ℕ) (tested : List Bool) → length tested ≡ most-routines → Tested-to b routine 0 tested
-no-answer-yet b routine tested long = record { upto = omega arith; answers = empty-row false _ tested long }
-
-module _ (b : List ℕ) (c : Counts) (t : Taken-with b c) (routine k : ℕ) (h : routine < c .routines) (tested : List Bool)
-    (s : Tested-to b routine k tested) where
-  pub routine-there : k ≤ routine → k < c .routines
-  routine-there g = omega (arith, g, h)
-
-  pub one-more-answer : (r : Bool) → k ≤ routine → r ≡ steady (book-of b) k → Tested-to b routine (k + 1) (set tested k r)
-  one-more-answer r g e =
-      record {
-        upto = omega (arith, g);
-        answers =
-            one-more-routine false _ tested k r (s .answers) (omega (arith, g, h, t .tabled .sized .routines-to-32)) e;
-      }
-
-  pub answer-is : routine < k → getD tested routine false ≡ steady (book-of b) routine
-  answer-is g = s .answers .each routine g
+pub answer-is : (b : List ℕ) (routine k : ℕ) (tested : List Bool) → Tested-to b routine k tested → routine < k
+    → getD tested routine false ≡ steady (book-of b) routine
+answer-is b routine k tested s g = s .below .each routine g

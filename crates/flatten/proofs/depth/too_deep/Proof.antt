@@ -4,7 +4,8 @@ use borrow.Author.Needs.{needs}
 use Rattle.flatten.proofs.depth.too_deep.Statement.{statement}
 use Rattle.flatten.proofs.depth.too_deep.Tie as tie
 use Prim.Native.Nat.{_+_, _-_}
-use Rattle.flatten.proofs.Deepest.{Depths-to, no-depth-yet, routine-there, one-more-depth, too-deep-tells}
+use Rattle.flatten.proofs.Rows.{none-known-yet, up-to-the-asked, one-more-known}
+use Rattle.flatten.proofs.Deepest.{Depths-to, too-deep-tells}
 
 abbrev Inv-loop : tie.InvT-loop
 Inv-loop b counts routine depths₀ k₀ depths k = Depths-to b routine k depths
@@ -13,13 +14,13 @@ abbrev μ-loop : tie.MeasureT-loop
 μ-loop b counts routine depths₀ k₀ depths k = routine + 1 - k
 
 loop-holds : tie.Need-loop-holds Inv-loop μ-loop
-loop-holds c = search no-depth-yet
+loop-holds c = search none-known-yet
 
 slice-aggregate-routine-depth : tie.Need-slice-aggregate-routine-depth Inv-loop μ-loop
 slice-aggregate-routine-depth c = search needs
 
 routine-depth-requires : tie.Need-routine-depth-requires Inv-loop μ-loop
-routine-depth-requires c κs = search routine-there
+routine-depth-requires c κs = search up-to-the-asked
 
 cast-depths : tie.Need-cast-depths Inv-loop μ-loop
 cast-depths c = search needs
@@ -37,7 +38,7 @@ loop-less : tie.Need-loop-less Inv-loop μ-loop
 loop-less c = search needs
 
 loop-again : tie.Need-loop-again Inv-loop μ-loop
-loop-again c = search one-more-depth
+loop-again c = search one-more-known
 
 mul-result : tie.Need-mul-result Inv-loop μ-loop
 mul-result c = search needs

@@ -4,7 +4,8 @@ use Rattle.quote.proofs.steady.is_steady.Statement.{statement}
 use Rattle.quote.proofs.steady.is_steady.Tie as tie
 use borrow.Author.Needs.{needs}
 use Prim.Native.Nat.{_+_, _-_}
-use Rattle.quote.proofs.Steadiness.{Tested-to, no-answer-yet, routine-there, one-more-answer, answer-is}
+use Rattle.flatten.proofs.Rows.{none-known-yet, up-to-the-asked, one-more-known}
+use Rattle.quote.proofs.Steadiness.{Tested-to, answer-is}
 
 abbrev Inv-loop : tie.InvT-loop
 Inv-loop b counts masks routine tested₀ k₀ tested k = Tested-to b routine k tested
@@ -13,13 +14,13 @@ abbrev μ-loop : tie.MeasureT-loop
 μ-loop b counts masks routine tested₀ k₀ tested k = routine + 1 - k
 
 loop-holds : tie.Need-loop-holds Inv-loop μ-loop
-loop-holds c = search no-answer-yet
+loop-holds c = search none-known-yet
 
 slice-aggregate-routine-steady : tie.Need-slice-aggregate-routine-steady Inv-loop μ-loop
 slice-aggregate-routine-steady c = search needs
 
 routine-steady-requires : tie.Need-routine-steady-requires Inv-loop μ-loop
-routine-steady-requires c κs = (search needs, (search needs, (search needs, search routine-there)))
+routine-steady-requires c κs = (search needs, (search needs, (search needs, search up-to-the-asked)))
 
 cast-tested : tie.Need-cast-tested Inv-loop μ-loop
 cast-tested c = search needs
@@ -34,7 +35,7 @@ loop-less : tie.Need-loop-less Inv-loop μ-loop
 loop-less c = search needs
 
 loop-again : tie.Need-loop-again Inv-loop μ-loop
-loop-again c = search one-more-answer
+loop-again c = search one-more-known
 
 array-read-result : tie.Need-array-read-result Inv-loop μ-loop
 array-read-result c = search needs
