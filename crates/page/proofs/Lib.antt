@@ -1,4 +1,3 @@
 -- The laws that the proofs of the functions cite. A function's own proof stands under its module and name.
-pub mod AsBytes
 pub mod Calls
 pub mod Unique

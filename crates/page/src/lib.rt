@@ -1,6 +1,5 @@
 // What the page in C calls, with byte slices and numbers. docs/C-INTERFACE.md says how each answer is laid out.
 pub mod answers; // answers.rt: the answers, field by field
-mod registers; // registers.rt: 32 registers as 64 bytes
 
 ghost use mathlib.Core.Path.{_≡_};
 ghost use mathlib.Core.List.{[]};
@@ -15,10 +14,10 @@ use answers::quote_fields;
 use answers::run_fields;
 use flatten::flatten;
 use quote::quote;
-use registers::REGISTERS_BYTES;
-use registers::put_registers;
-use registers::registers_of;
 use unit::Ran;
+use unit::registers::REGISTERS_BYTES;
+use unit::registers::put_registers;
+use unit::registers::registers_of;
 use unit::run;
 
 // Flattens one routine of a book. Accepted, the flat book stands at the front of the output.

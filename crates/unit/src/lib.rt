@@ -1,5 +1,6 @@
 // The unit: a flat book is run with a budget, or one step of it is made on the bench.
 pub mod machine; // machine.rt: one step, and the run with its three reasons to stop
+pub mod registers; // registers.rt: 32 registers as 64 bytes
 
 ghost use mathlib.Core.Path.{_≡_};
 ghost use Rattle.scope.specs.Running.{run-call, bench-call};

@@ -1,11 +1,11 @@
 -- `registers::put_two_byte` leaves the two bytes of a number at a place.
 -- Two stores, one behind the other. Assumes nothing.
 use borrow.Author.Needs.{needs}
-use Rattle.page.proofs.registers.put_two_byte.Statement.{statement}
-use Rattle.page.proofs.registers.put_two_byte.Tie as tie
+use Rattle.unit.proofs.registers.put_two_byte.Statement.{statement}
+use Rattle.unit.proofs.registers.put_two_byte.Tie as tie
 use native.Mathlib.Omega.{arith}
 use lib.ListN.{length-set}
-use Rattle.page.proofs.AsBytes.{two-stored}
+use Rattle.unit.proofs.AsBytes.{two-stored}
 
 low-requires : tie.Need-low-requires
 low-requires c κs = search needs

@@ -1,11 +1,11 @@
 -- `registers::put_registers` leaves the bytes of the registers.
 -- The first j are written (`Written-to`); 32 less j falls. Assumes nothing.
 use borrow.Author.Needs.{needs}
-use Rattle.page.proofs.registers.put_registers.Statement.{statement}
-use Rattle.page.proofs.registers.put_registers.Tie as tie
+use Rattle.unit.proofs.registers.put_registers.Statement.{statement}
+use Rattle.unit.proofs.registers.put_registers.Tie as tie
 use Prim.Native.Nat.{_-_}
 use Rattle.scope.specs.Steps.{register-count}
-use Rattle.page.proofs.AsBytes.{Written-to, none-written, one-more-written, all-are-written}
+use Rattle.unit.proofs.AsBytes.{Written-to, none-written, one-more-written, all-are-written}
 
 abbrev Inv-loop : tie.InvT-loop
 Inv-loop regs bytes₀ j₀ bytes j = Written-to regs bytes₀ j bytes

@@ -1,11 +1,11 @@
 -- `registers::registers_of` has the registers that the bytes say.
 -- The first j are read (`Read-to`); 32 less j falls. Assumes nothing.
 use borrow.Author.Needs.{needs}
-use Rattle.page.proofs.registers.registers_of.Statement.{statement}
-use Rattle.page.proofs.registers.registers_of.Tie as tie
+use Rattle.unit.proofs.registers.registers_of.Statement.{statement}
+use Rattle.unit.proofs.registers.registers_of.Tie as tie
 use Prim.Native.Nat.{_-_}
 use Rattle.scope.specs.Steps.{register-count}
-use Rattle.page.proofs.AsBytes.{Read-to, none-read, one-more-read, all-read}
+use Rattle.unit.proofs.AsBytes.{Read-to, none-read, one-more-read, all-read}
 
 abbrev Inv-loop : tie.InvT-loop
 Inv-loop bytes regs₀ j₀ regs j = Read-to bytes j regs

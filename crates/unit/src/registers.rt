@@ -6,15 +6,15 @@ ghost use Rattle.scope.specs.Book.{two-bytes, two-bytes-each};
 ghost use Rattle.scope.specs.Steps.{register-count};
 ghost use Rattle.scope.specs.Page.{registers-length, registers-of};
 ghost use Rattle.book.specs.Written.{with-bytes};
+use crate::machine::REGISTERS;
 use book::numbers::high;
 use book::numbers::low;
 use book::numbers::two_byte;
-use unit::machine::REGISTERS;
 
-pub(crate) const REGISTERS_BYTES: usize = 2 * REGISTERS;
+pub const REGISTERS_BYTES: usize = 2 * REGISTERS;
 
 // The registers that the bytes say.
-pub(crate) fn registers_of(bytes: &[u8]) -> [u16; REGISTERS]
+pub fn registers_of(bytes: &[u8]) -> [u16; REGISTERS]
     requires { ⌜ length (now bytes) ≡ registers-length ⌝ }
     ensures { λ r. ⌜ r ≡ registers-of (now (bytes .entry)) ⌝ }
 {
@@ -38,7 +38,7 @@ fn put_two_byte(out: &mut [u8], at: usize, n: u16)
 }
 
 // Writes the registers over the bytes.
-pub(crate) fn put_registers(regs: &[u16], bytes: &mut [u8])
+pub fn put_registers(regs: &[u16], bytes: &mut [u8])
     requires { ⌜ length (now regs) ≡ register-count ⌝ }
     requires { ⌜ length (now bytes) ≡ registers-length ⌝ }
     ensures { λ _. ⌜ now (bytes .exit) ≡ two-bytes-each (now (regs .entry)) ⌝ }
