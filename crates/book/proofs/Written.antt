@@ -41,7 +41,7 @@ unfolding with-bytes
 all-written out bytes e = rw (drop-of-length-le out {i = 0 + length bytes} (omega arith)) (append-nil bytes)
 
 -- Writing at the end of what was written is writing both at once.
-written-on : (out xs ys : List ℕ) (at m : ℕ) → m ≡ at + length xs → m ≤ length out
+pub written-on : (out xs ys : List ℕ) (at m : ℕ) → m ≡ at + length xs → m ≤ length out
     → with-bytes (with-bytes out at xs) m ys ≡ with-bytes out at (xs ++ ys)
 unfolding with-bytes
 written-on out xs ys at m e h =

@@ -22,7 +22,7 @@ pub const ROW: usize = MOST_ROUTINES as usize;
 pub(crate) const TABLE: usize = MOST_LINES as usize + MOST_ROUTINES as usize;
 
 // At most 4,096 flat lines. Lengths stop at the next number, so that no sum wraps.
-pub(crate) const MOST_FLAT_LINES: usize = 4096;
+pub const MOST_FLAT_LINES: usize = 4096;
 
 const LENGTH_CAP: u32 = MOST_FLAT_LINES as u32 + 1;
 

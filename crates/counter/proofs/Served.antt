@@ -1,0 +1,187 @@
+-- What is printed of each way through the counter is what document 01 has the program print.
+-- With 16,400 bytes of room 14 can't come, and a flat book that flattening wrote is not refused by the run. Assumes nothing.
+use mir.Syntax.{w64}
+use mir.Val.{Fits}
+use Prim.Native.Nat.{ℕ, _+_, _-_, _*_, _≤_, _<_}
+use native.Mathlib.Omega.{arith}
+use mathlib.Core.Path.{_≡_, sym, _∙_, ap}
+use mathlib.Core.List.{List, _++_}
+use lib.ListN.{length, length-append, take, drop}
+use lib.Seq.{length-take-le}
+use Rattle.scope.specs.Refusals as paper
+use Rattle.scope.specs.Refusals.{SHORT, LENGTH, refusal, call-of}
+use Rattle.scope.specs.Book.{book-of}
+use Rattle.scope.specs.Steps.{register-count, Registers}
+use Rattle.scope.specs.Flattening.{flat-program, flat-book, flat-book-bytes, at-the-front-of, flatten-call}
+use Rattle.scope.specs.Running.{flat-run, ran, run-call}
+use Rattle.scope.specs.Page.{registers-of}
+use Rattle.scope.specs.Shop.{trailer-length, most-input, book-read, routine-read, registers-read, budget-read, print-run, print-refusal, shop-run, shop-prints}
+use Rattle.scope.specs.GivenByCalls.{Flattens, Given-flattening, flattening-before, flattening-NO-ROOM, Given-in-the-shop, shop-SHORT, shop-LENGTH, shop-before}
+use Rattle.scope.proofs.Verdicts.{refused-exactly-when, call-where-passed}
+use Rattle.scope.proofs.Lists.{length-listed}
+use Rattle.scope.proofs.GivenByCalls.{flattening-given-exactly-when}
+use Rattle.scope.proofs.Answers.{shop-prints-a-refusal, shop-prints-a-run}
+use Rattle.scope.proofs.FlatLines.{length-flat-program}
+use Rattle.scope.proofs.FlatBook.{flat-book-is-taken}
+use Rattle.scope.proofs.Flattened.{flattened-can-be-run}
+use Rattle.book.specs.Written.{with-bytes}
+use Rattle.book.specs.declared.refusals.Refusal.{Refusal}
+use Rattle.book.specs.Told.{refusal-told}
+use Rattle.flatten.specs.declared.Flattened.{Flattened}
+use Rattle.flatten.specs.declared.Flattened.the-variants as flattened
+use Rattle.flatten.specs.Told.{flattened-told}
+use Rattle.flatten.proofs.Output.{routine-flattens, n-is-its-length, flat-book-in-front}
+use Rattle.unit.specs.declared.Ran.{Ran}
+use Rattle.unit.specs.Told.{ran-told}
+use Rattle.io.specs.Counts.{Counts}
+use Rattle.counter.specs.Printed.{counter-answers, Printed, printed, print-answer, print-call}
+use Rattle.counter.proofs.LastBytes.{Low}
+use Rattle.counter.proofs.Lines.{printed-there}
+use Rattle.counter.proofs.Longest.{longest-answer}
+
+-- how many bytes a part in front has
+pub part-in-front : (k : ℕ) (xs : List ℕ) → k ≤ length xs → k ≡ length (take k xs)
+part-in-front k xs h = sym (length-take-le k xs h)
+
+pub book-in-front : (input : List ℕ) → length input - 74 ≡ length (take (length input - 74) input)
+book-in-front input = part-in-front (length input - 74) input (omega arith)
+
+-- ---- the run
+
+module _ (flat input : List ℕ) (rs rs′ : Registers) (budget : ℕ) (r : Ran) (its-registers : rs ≡ registers-read input)
+    (its-budget : budget ≡ budget-read input) (told : record { answer = ran-told r; left = rs′ } ≡ run-call flat 0 rs budget) where
+  said : print-call (run-call flat 0 (registers-read input) (budget-read input)) ≡ print-answer (ran-told r) rs′
+  unfolding print-call
+  said = rw (its-registers, its-budget) at (ap print-call (sym told))
+
+  pub room-for-the-run : (room : ℕ) → length (print-call (run-call flat 0 (registers-read input) (budget-read input))) ≤ room
+      → length (print-answer (ran-told r) rs′) ≤ room
+  room-for-the-run room enough = rw said at enough
+
+  pub the-run-printed : {p : Printed} (out : List ℕ) → p ≡ printed 0 (print-answer (ran-told r) rs′) out
+      → p ≡ printed 0 (print-call (run-call flat 0 (registers-read input) (budget-read input))) out
+  the-run-printed out = printed-there said out 0
+
+-- ---- flattening
+
+module _ (input : List ℕ) (h : trailer-length ≤ length input) (l : length input ≤ most-input) where
+  -- A flat book that flattening wrote is run, and the run printed.
+  prints-its-run : Flattens (book-read input) (routine-read input)
+      → print-call (run-call (flat-book (flat-program (book-of (book-read input)) (routine-read input))) 0 (registers-read input) (budget-read input))
+      ≡ shop-prints input
+  unfolding run-call print-call print-answer ran print-run registers-read registers-of shop-run
+  prints-its-run f =
+      let P = flat-program (book-of (book-read input)) (routine-read input) in
+      let says = flat-book-is-taken (book-read input) (f .taken) (routine-read input) (f .not-too-long) in
+      let passes = flattened-can-be-run (book-read input) (routine-read input) f (registers-read input) (length-listed _ 0 register-count) in
+      ap print-call (call-where-passed _ _ _ passes) ∙ ap (λ Q. print-run (flat-run Q 0 (budget-read input) (registers-read input))) (says .its-program)
+      ∙ sym (shop-prints-a-run input h l f)
+
+  module _ (flat flat′ : List ℕ) (long : length flat ≡ 16400) (k : ℕ) (asked : k ≡ routine-read input) (f : Flattened)
+      (told : record { answer = flattened-told f; left = flat′ } ≡ flatten-call (take (length input - 74) input) k flat) where
+    module _ {x : Refusal} (e : f ≡ flattened.Refused x) where
+      -- 14 is not among its refusals.
+      refused-before : {y : paper.Refusal} → Given-flattening (book-read input) (routine-read input) (length flat) y → Given-in-the-shop input y
+      unfolding flat-book-bytes
+      refused-before (flattening-before g) = shop-before h l g
+      refused-before (flattening-NO-ROOM g small) = absurd (omega (arith, g .not-too-long, small, long))
+
+      says-refused : shop-prints input ≡ print-refusal (refusal-told x)
+      unfolding flatten-call call-of flattened-told book-read
+      says-refused =
+          let answers = ap (λ c. c .answer) (rw (asked, e) at told) in
+          shop-prints-a-refusal input (refusal-told x)
+          (refused-before (flattening-given-exactly-when _ _ _ _ .0 (refused-exactly-when _ _ _ .0 (sym answers))))
+
+      pub room-for-its-refusal : (room : ℕ) → length (shop-prints input) ≤ room → length (print-refusal (refusal-told x)) ≤ room
+      room-for-its-refusal room enough = rw says-refused at enough
+
+      pub its-refusal-printed : {p : Printed} (out : List ℕ) → p ≡ printed 0 (print-refusal (refusal-told x)) out → p ≡ printed 0 (shop-prints input) out
+      its-refusal-printed out = printed-there says-refused out 0
+
+    module _ {n : ℕ} (e : f ≡ flattened.Flat n) where
+      it-flattens : Flattens (book-read input) (routine-read input)
+      unfolding book-read
+      it-flattens = routine-flattens (book-read input) (routine-read input) n flat flat′ (rw (asked, e) at told)
+
+      n-within : n ≤ 4096
+      unfolding book-read
+      n-within =
+          let size = n-is-its-length (book-read input) (routine-read input) n flat flat′ (rw (asked, e) at told) in
+          omega (arith, size, length-flat-program (book-of (book-read input)) (routine-read input), it-flattens .not-too-long)
+
+      pub product-fits : Fits w64 (4 * n)
+      product-fits = record { fits = omega (arith, n-within) }
+
+      pub sum-fits : Fits w64 (16 + 4 * n)
+      sum-fits = record { fits = omega (arith, n-within) }
+
+      pub stands-in-front : length flat′ ≡ length flat → 16 + 4 * n ≤ length flat′
+      stands-in-front same = omega (arith, n-within, long, same)
+
+      says-run : shop-prints input ≡ print-call (run-call (take (16 + 4 * n) flat′) 0 (registers-read input) (budget-read input))
+      unfolding book-read flat-book-bytes
+      says-run =
+          let front = flat-book-in-front (book-read input) (routine-read input) n flat flat′ (rw (asked, e) at told) in
+          sym (rw front (prints-its-run it-flattens))
+
+      pub room-for-its-run : (room : ℕ) → length (shop-prints input) ≤ room
+          → length (print-call (run-call (take (16 + 4 * n) flat′) 0 (registers-read input) (budget-read input))) ≤ room
+      room-for-its-run room enough = rw says-run at enough
+
+      pub its-run-printed : {p : Printed} (out : List ℕ)
+          → p ≡ printed 0 (print-call (run-call (take (16 + 4 * n) flat′) 0 (registers-read input) (budget-read input))) out
+          → p ≡ printed 0 (shop-prints input) out
+      its-run-printed out = printed-there says-run out 0
+
+-- ---- the answer
+
+-- So many bytes are there.
+pub with-its-count : (input out : List ℕ) {r : ℕ} {out′ : List ℕ} → record { count = r; left = out′ } ≡ counter-answers input out
+    → (record { count = r; left = out′ } ≡ counter-answers input out) × Counts r out′
+unfolding counter-answers at-the-front-of
+with-its-count input out {r} {out′} is =
+    let text = shop-prints input in
+    let within : r ≤ length out′ =
+    omega (arith, ap (λ a. a .count) is, ap (λ a. length (a .left)) is, length-append text (drop (length text) out)) in
+    (is, (within, part-in-front r out′ within))
+
+module _ (input out : List ℕ) (low : Low input) (long : length out ≡ 349) where
+  pub room-for-the-answer : length (shop-prints input) ≤ length out
+  room-for-the-answer = omega (arith, longest-answer input low, long)
+
+  pub answer-is : {r : ℕ} {out′ : List ℕ} → record { next = r; left = out′ } ≡ printed 0 (shop-prints input) out
+      → record { count = r; left = out′ } ≡ counter-answers input out
+  unfolding printed with-bytes counter-answers at-the-front-of
+  answer-is {r} {out′} p =
+      let text = shop-prints input in
+      let same : 0 + length text ≡ length text = omega arith in
+      λ i. record { count = (ap (λ q. q .next) p ∙ same) i; left = (ap (λ q. q .left) p ∙ ap (λ n. text ++ drop n out) same) i }
+
+  -- under 74 bytes, and over 16,598
+  module _ (x : Refusal) {y : paper.Refusal} (told : refusal-told x ≡ y) (given : Given-in-the-shop input y) where
+    says-at-once : shop-prints input ≡ print-refusal (refusal-told x)
+    says-at-once = shop-prints-a-refusal input y given ∙ ap print-refusal (sym told)
+
+    room-at-once : length (print-refusal (refusal-told x)) ≤ length out
+    room-at-once = rw says-at-once at room-for-the-answer
+
+    answered-at-once : {r : ℕ} {out′ : List ℕ} → record { next = r; left = out′ } ≡ printed 0 (print-refusal (refusal-told x)) out
+        → record { count = r; left = out′ } ≡ counter-answers input out
+    answered-at-once p = answer-is (printed-there says-at-once out 0 p)
+
+  module _ (x : Refusal) (told : refusal-told x ≡ refusal SHORT 0) (h : length input < trailer-length) where
+    pub room-for-SHORT : length (print-refusal (refusal-told x)) ≤ length out
+    room-for-SHORT = room-at-once x told (shop-SHORT h)
+
+    pub answered-SHORT : {r : ℕ} {out′ : List ℕ} → record { next = r; left = out′ } ≡ printed 0 (print-refusal (refusal-told x)) out
+        → record { count = r; left = out′ } ≡ counter-answers input out
+    answered-SHORT = answered-at-once x told (shop-SHORT h)
+
+  module _ (x : Refusal) (told : refusal-told x ≡ refusal LENGTH 0) (h : trailer-length ≤ length input) (l : most-input < length input) where
+    pub room-for-LENGTH : length (print-refusal (refusal-told x)) ≤ length out
+    room-for-LENGTH = room-at-once x told (shop-LENGTH h l)
+
+    pub answered-LENGTH : {r : ℕ} {out′ : List ℕ} → record { next = r; left = out′ } ≡ printed 0 (print-refusal (refusal-told x)) out
+        → record { count = r; left = out′ } ≡ counter-answers input out
+    answered-LENGTH = answered-at-once x told (shop-LENGTH h l)
