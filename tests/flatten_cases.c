@@ -6,12 +6,6 @@
 
 #include <string.h>
 
-/* How an answer is laid out: docs/C-INTERFACE.md. */
-typedef char size_is_16[sizeof(struct zn_flatten_answer) == 16 ? 1 : -1];
-typedef char refusal_at_0[offsetof(struct zn_flatten_answer, refusal) == 0 ? 1 : -1];
-typedef char place_at_2[offsetof(struct zn_flatten_answer, place) == 2 ? 1 : -1];
-typedef char lines_at_8[offsetof(struct zn_flatten_answer, lines) == 8 ? 1 : -1];
-
 enum { MOST_ROOM = 16 + 4 * MOST_LINES };
 
 static struct pages of_the_book, of_the_output;

@@ -6,12 +6,6 @@
 #include "report.h"
 #include "samples.h"
 
-/* How an answer is laid out: docs/C-INTERFACE.md. */
-typedef char size_is_16[sizeof(struct zn_quote_answer) == 16 ? 1 : -1];
-typedef char refusal_at_0[offsetof(struct zn_quote_answer, refusal) == 0 ? 1 : -1];
-typedef char place_at_2[offsetof(struct zn_quote_answer, place) == 2 ? 1 : -1];
-typedef char quote_at_8[offsetof(struct zn_quote_answer, quote) == 8 ? 1 : -1];
-
 /* -- samples. C is B's book. -- */
 
 static void samples(void)

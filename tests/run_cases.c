@@ -6,15 +6,6 @@
 
 #include <string.h>
 
-/* How an answer is laid out: docs/C-INTERFACE.md. */
-typedef char size_is_24[sizeof(struct zn_run_answer) == 24 ? 1 : -1];
-typedef char refusal_at_0[offsetof(struct zn_run_answer, refusal) == 0 ? 1 : -1];
-typedef char place_at_2[offsetof(struct zn_run_answer, place) == 2 ? 1 : -1];
-typedef char outcome_at_4[offsetof(struct zn_run_answer, outcome) == 4 ? 1 : -1];
-typedef char reg_at_6[offsetof(struct zn_run_answer, reg) == 6 ? 1 : -1];
-typedef char steps_at_8[offsetof(struct zn_run_answer, steps) == 8 ? 1 : -1];
-typedef char line_at_16[offsetof(struct zn_run_answer, line) == 16 ? 1 : -1];
-
 enum { REGISTERS = 32, REGISTERS_BYTES = 64 };
 
 static struct pages of_the_book, of_the_registers;
