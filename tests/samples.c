@@ -45,17 +45,26 @@ struct book sample_g(void) { return nested(2, (const unsigned[]){1, 1}, (const u
 
 struct book sample_g_also(void) { return nested(2, (const unsigned[]){1, 1}, (const unsigned[][3]){{DEC, 0, 1}, {REPEAT, 0, 0}}); }
 
-struct book sample_h(void)
+/* Routine 0 is INC 0, and so many routines each call the one before twice; then, where asked for, one of CALL 12 and one INC. */
+static struct book doublings(unsigned n, int one_more)
 {
     struct text t = {0};
     add_routine(&t);
     add_lines(&t, 1, INC, 0, 0);
-    add_tower(&t, 13, 2);
-    add_routine(&t);
-    add_lines(&t, 1, CALL, 0, 12);
-    add_lines(&t, 1, INC, 0, 0);
+    add_tower(&t, n, 2);
+    if (one_more) {
+        add_routine(&t);
+        add_lines(&t, 1, CALL, 0, 12);
+        add_lines(&t, 1, INC, 0, 0);
+    }
     return book_of(&t);
 }
+
+struct book sample_h(void) { return doublings(13, 1); }
+
+struct book sample_h_doubled(void) { return doublings(13, 0); }
+
+struct book sample_h_one_more(void) { return doublings(12, 1); }
 
 struct book sample_i(void)
 {

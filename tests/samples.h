@@ -20,6 +20,10 @@ struct book sample_g_also(void);
 /* Up to routine 13, and with a last routine 14 of CALL 12 and one INC. */
 struct book sample_h(void);
 
+/* The same in two books: up to routine 13 of two CALL 12; and routine 13 with CALL 12 and one INC. Each routine but the last is used. */
+struct book sample_h_doubled(void);
+struct book sample_h_one_more(void);
+
 /* Up to routine 4. */
 struct book sample_i(void);
 
