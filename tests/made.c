@@ -33,12 +33,7 @@ static size_t made_start(void) { return one_in(3) ? below(16) : one_in(20) ? wid
 
 static size_t made_registers(uint8_t registers[80])
 {
-    static const unsigned values[] = {0, 0, 0, 1, 2, 3, 255, 256, 65534, 65535};
-    for (int j = 0; j < 40; j++) {
-        unsigned v = one_in(6) ? (unsigned)below(65536) : values[below(10)];
-        registers[2 * j] = (uint8_t)v;
-        registers[2 * j + 1] = (uint8_t)(v >> 8);
-    }
+    make_registers(registers, 40);
     return one_in(20) ? below(80) : 64;
 }
 

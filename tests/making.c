@@ -157,6 +157,16 @@ size_t make_steady(struct book *b)
     return routines;
 }
 
+void make_registers(uint8_t *registers, size_t n)
+{
+    static const unsigned values[] = {0, 0, 0, 1, 2, 3, 255, 256, 65534, 65535};
+    for (size_t j = 0; j < n; j++) {
+        unsigned v = one_in(6) ? (unsigned)below(65536) : values[below(10)];
+        registers[2 * j] = (uint8_t)v;
+        registers[2 * j + 1] = (uint8_t)(v >> 8);
+    }
+}
+
 void damage(struct book *b)
 {
     do {
