@@ -13,7 +13,7 @@
 #include <sys/wait.h>
 #include <unistd.h>
 
-enum { TRAILER = 74, MOST_INPUT = 16598, SHORT_RUN = 200000, SECONDS = 20 };
+enum { TRAILER = 74, MOST_INPUT = 16598, SHORT_RUN = 200000, SECONDS = 10 };
 
 static char *program;
 
@@ -25,10 +25,12 @@ static struct book book, input;
 extern char **environ;
 
 static pid_t child;
+static volatile sig_atomic_t is_late;
 
 static void end_the_child(int signal)
 {
     (void)signal;
+    is_late = 1;
     kill(child, SIGKILL);
 }
 
@@ -60,8 +62,8 @@ static size_t take(int from, char *printed, size_t most)
     return n;
 }
 
-/* What the program prints for the input, up to a byte more than there can be. Answers whether it ended by itself, with 0. The input waits
-   in the pipe, which has room for 65,536 bytes. */
+/* What the program prints for the input, up to a byte more than there can be. Answers whether it ended with 0. The input waits in the pipe,
+   which has room for 65,536 bytes. Where the program does not end, there are no further tests. */
 static int run_program(char printed[MOST_PRINTED + 2], size_t *length)
 {
     int in[2], out[2], status = 1;
@@ -76,6 +78,10 @@ static int run_program(char printed[MOST_PRINTED + 2], size_t *length)
     close(out[0]);
     must(waitpid(child, &status, 0) == child);
     alarm(0);
+    if (is_late) {
+        printf("the program does not end within %d seconds\n", SECONDS);
+        exit(EXIT_FAILURE);
+    }
     return WIFEXITED(status) && WEXITSTATUS(status) == 0;
 }
 
