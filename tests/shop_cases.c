@@ -258,7 +258,7 @@ int main(int argc, char **argv)
     must(argc > 1);
     program = argv[1];
     signal(SIGALRM, end_the_child);
-    unsigned long cases = argc > 2 ? strtoul(argv[2], 0, 10) : 2000;
+    unsigned long cases = argc > 2 ? strtoul(argv[2], 0, 10) : 10000;
     uint64_t from = argc > 3 ? strtoull(argv[3], 0, 10) : 20261116;
     seed(from);
     printf("%lu cases, seed %llu\n", cases, (unsigned long long)from);
