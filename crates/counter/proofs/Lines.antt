@@ -27,6 +27,9 @@ use Rattle.counter.proofs.Texts.{as-long, nothing-printed, room-before,
 
 -- ---- a line in other words
 
+pub room-said : {text said : List ℕ} → text ≡ said → (room : ℕ) → length text ≤ room → length said ≤ room
+room-said same room enough = rw same at enough
+
 module _ {text said : List ℕ} (same : text ≡ said) (out : List ℕ) where
   pub room-there : (at : ℕ) → at + length text ≤ length out → at + length said ≤ length out
   room-there at room = rw same at room
@@ -171,18 +174,11 @@ module _ (from : ℕ) (rs : Registers) (out₀ : List ℕ) where
 
 -- ---- what a run answers
 
+pub its-refusal-said : (r : Ran) (rs : Registers) {x : Refusal} → r ≡ Refused x → print-answer (ran-told r) rs ≡ print-refusal (refusal-told x)
+unfolding print-answer ran-told
+its-refusal-said r rs e = rw e refl
+
 module _ (r : Ran) (rs : Registers) (out : List ℕ) (room : length (print-answer (ran-told r) rs) ≤ length out) where
-  module _ {x : Refusal} (e : r ≡ Refused x) where
-    says-refused : print-answer (ran-told r) rs ≡ print-refusal (refusal-told x)
-    unfolding print-answer ran-told
-    says-refused = rw e refl
-
-    pub room-for-its-refusal : length (print-refusal (refusal-told x)) ≤ length out
-    room-for-its-refusal = rw says-refused at room
-
-    pub its-refusal-printed : {p : Printed} → p ≡ printed 0 (print-refusal (refusal-told x)) out → p ≡ printed 0 (print-answer (ran-told r) rs) out
-    its-refusal-printed = printed-there says-refused out 0
-
   module _ {a : Answer} (e : r ≡ Done a) where
     abbrev its-outcome : List ℕ
     its-outcome = outcome-line (outcome-told (a .outcome)) (a .steps) (a .line .0)

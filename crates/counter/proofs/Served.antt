@@ -34,9 +34,9 @@ use Rattle.flatten.proofs.Output.{routine-flattens, n-is-its-length, flat-book-
 use Rattle.unit.specs.declared.Ran.{Ran}
 use Rattle.unit.specs.Told.{ran-told}
 use Rattle.io.specs.Counts.{Counts}
-use Rattle.counter.specs.Printed.{counter-answers, Printed, printed, print-answer, print-call}
+use Rattle.counter.specs.Printed.{counter-answers, printed, print-answer, print-call}
 use Rattle.counter.proofs.LastBytes.{Low}
-use Rattle.counter.proofs.Lines.{printed-there}
+use Rattle.counter.proofs.Lines.{room-said}
 use Rattle.counter.proofs.Longest.{longest-answer}
 
 -- how many bytes a part in front has
@@ -48,19 +48,11 @@ book-in-front input = part-in-front (length input - 74) input (omega arith)
 
 -- ---- the run
 
-module _ (flat input : List ℕ) (rs rs′ : Registers) (budget : ℕ) (r : Ran) (its-registers : rs ≡ registers-read input)
-    (its-budget : budget ≡ budget-read input) (told : record { answer = ran-told r; left = rs′ } ≡ run-call flat 0 rs budget) where
-  said : print-call (run-call flat 0 (registers-read input) (budget-read input)) ≡ print-answer (ran-told r) rs′
-  unfolding print-call
-  said = rw (its-registers, its-budget) at (ap print-call (sym told))
-
-  pub room-for-the-run : (room : ℕ) → length (print-call (run-call flat 0 (registers-read input) (budget-read input))) ≤ room
-      → length (print-answer (ran-told r) rs′) ≤ room
-  room-for-the-run room enough = rw said at enough
-
-  pub the-run-printed : {p : Printed} (out : List ℕ) → p ≡ printed 0 (print-answer (ran-told r) rs′) out
-      → p ≡ printed 0 (print-call (run-call flat 0 (registers-read input) (budget-read input))) out
-  the-run-printed out = printed-there said out 0
+pub the-run-said : (flat input : List ℕ) (rs rs′ : Registers) (budget : ℕ) (r : Ran) → rs ≡ registers-read input → budget ≡ budget-read input
+    → record { answer = ran-told r; left = rs′ } ≡ run-call flat 0 rs budget
+    → print-call (run-call flat 0 (registers-read input) (budget-read input)) ≡ print-answer (ran-told r) rs′
+unfolding print-call
+the-run-said flat input rs rs′ budget r its-registers its-budget told = rw (its-registers, its-budget) at (ap print-call (sym told))
 
 -- ---- flattening
 
@@ -71,7 +63,6 @@ module _ (input : List ℕ) (h : trailer-length ≤ length input) (l : length in
       ≡ shop-prints input
   unfolding run-call print-call print-answer ran print-run registers-read registers-of shop-run
   prints-its-run f =
-      let P = flat-program (book-of (book-read input)) (routine-read input) in
       let says = flat-book-is-taken (book-read input) (f .taken) (routine-read input) (f .not-too-long) in
       let passes = flattened-can-be-run (book-read input) (routine-read input) f (registers-read input) (length-listed _ 0 register-count) in
       ap print-call (call-where-passed _ _ _ passes) ∙ ap (λ Q. print-run (flat-run Q 0 (budget-read input) (registers-read input))) (says .its-program)
@@ -86,18 +77,12 @@ module _ (input : List ℕ) (h : trailer-length ≤ length input) (l : length in
       refused-before (flattening-before g) = shop-before h l g
       refused-before (flattening-NO-ROOM g small) = absurd (omega (arith, g .not-too-long, small, long))
 
-      says-refused : shop-prints input ≡ print-refusal (refusal-told x)
+      pub refusal-said : shop-prints input ≡ print-refusal (refusal-told x)
       unfolding flatten-call call-of flattened-told book-read
-      says-refused =
+      refusal-said =
           let answers = ap (λ c. c .answer) (rw (asked, e) at told) in
           shop-prints-a-refusal input (refusal-told x)
           (refused-before (flattening-given-exactly-when _ _ _ _ .0 (refused-exactly-when _ _ _ .0 (sym answers))))
-
-      pub room-for-its-refusal : (room : ℕ) → length (shop-prints input) ≤ room → length (print-refusal (refusal-told x)) ≤ room
-      room-for-its-refusal room enough = rw says-refused at enough
-
-      pub its-refusal-printed : {p : Printed} (out : List ℕ) → p ≡ printed 0 (print-refusal (refusal-told x)) out → p ≡ printed 0 (shop-prints input) out
-      its-refusal-printed out = printed-there says-refused out 0
 
     module _ {n : ℕ} (e : f ≡ flattened.Flat n) where
       it-flattens : Flattens (book-read input) (routine-read input)
@@ -119,20 +104,11 @@ module _ (input : List ℕ) (h : trailer-length ≤ length input) (l : length in
       pub stands-in-front : length flat′ ≡ length flat → 16 + 4 * n ≤ length flat′
       stands-in-front same = omega (arith, n-within, long, same)
 
-      says-run : shop-prints input ≡ print-call (run-call (take (16 + 4 * n) flat′) 0 (registers-read input) (budget-read input))
+      pub run-said : shop-prints input ≡ print-call (run-call (take (16 + 4 * n) flat′) 0 (registers-read input) (budget-read input))
       unfolding book-read flat-book-bytes
-      says-run =
+      run-said =
           let front = flat-book-in-front (book-read input) (routine-read input) n flat flat′ (rw (asked, e) at told) in
           sym (rw front (prints-its-run it-flattens))
-
-      pub room-for-its-run : (room : ℕ) → length (shop-prints input) ≤ room
-          → length (print-call (run-call (take (16 + 4 * n) flat′) 0 (registers-read input) (budget-read input))) ≤ room
-      room-for-its-run room enough = rw says-run at enough
-
-      pub its-run-printed : {p : Printed} (out : List ℕ)
-          → p ≡ printed 0 (print-call (run-call (take (16 + 4 * n) flat′) 0 (registers-read input) (budget-read input))) out
-          → p ≡ printed 0 (shop-prints input) out
-      its-run-printed out = printed-there says-run out 0
 
 -- ---- the answer
 
@@ -146,42 +122,33 @@ with-its-count input out {r} {out′} is =
     omega (arith, ap (λ a. a .count) is, ap (λ a. length (a .left)) is, length-append text (drop (length text) out)) in
     (is, (within, part-in-front r out′ within))
 
+pub answer-is : (input out : List ℕ) {r : ℕ} {out′ : List ℕ} → record { next = r; left = out′ } ≡ printed 0 (shop-prints input) out
+    → record { count = r; left = out′ } ≡ counter-answers input out
+unfolding printed with-bytes counter-answers at-the-front-of
+answer-is input out {r} {out′} p =
+    let text = shop-prints input in
+    let same : 0 + length text ≡ length text = omega arith in
+    λ i. record { count = (ap (λ q. q .next) p ∙ same) i; left = (ap (λ q. q .left) p ∙ ap (λ n. text ++ drop n out) same) i }
+
+-- under 74 bytes, and over 16,598
+module _ (input : List ℕ) (x : Refusal) where
+  pub SHORT-said : refusal-told x ≡ refusal SHORT 0 → length input < trailer-length → shop-prints input ≡ print-refusal (refusal-told x)
+  SHORT-said told h = shop-prints-a-refusal input (refusal-told x) (rw told (shop-SHORT h))
+
+  pub LENGTH-said : refusal-told x ≡ refusal LENGTH 0 → trailer-length ≤ length input → most-input < length input
+      → shop-prints input ≡ print-refusal (refusal-told x)
+  LENGTH-said told h l = shop-prints-a-refusal input (refusal-told x) (rw told (shop-LENGTH h l))
+
+-- ---- room for the answer
+
 module _ (input out : List ℕ) (low : Low input) (long : length out ≡ 349) where
   pub room-for-the-answer : length (shop-prints input) ≤ length out
   room-for-the-answer = omega (arith, longest-answer input low, long)
 
-  pub answer-is : {r : ℕ} {out′ : List ℕ} → record { next = r; left = out′ } ≡ printed 0 (shop-prints input) out
-      → record { count = r; left = out′ } ≡ counter-answers input out
-  unfolding printed with-bytes counter-answers at-the-front-of
-  answer-is {r} {out′} p =
-      let text = shop-prints input in
-      let same : 0 + length text ≡ length text = omega arith in
-      λ i. record { count = (ap (λ q. q .next) p ∙ same) i; left = (ap (λ q. q .left) p ∙ ap (λ n. text ++ drop n out) same) i }
+  module _ (x : Refusal) where
+    pub room-for-SHORT : refusal-told x ≡ refusal SHORT 0 → length input < trailer-length → length (print-refusal (refusal-told x)) ≤ length out
+    room-for-SHORT told h = room-said (SHORT-said input x told h) (length out) room-for-the-answer
 
-  -- under 74 bytes, and over 16,598
-  module _ (x : Refusal) {y : paper.Refusal} (told : refusal-told x ≡ y) (given : Given-in-the-shop input y) where
-    says-at-once : shop-prints input ≡ print-refusal (refusal-told x)
-    says-at-once = shop-prints-a-refusal input y given ∙ ap print-refusal (sym told)
-
-    room-at-once : length (print-refusal (refusal-told x)) ≤ length out
-    room-at-once = rw says-at-once at room-for-the-answer
-
-    answered-at-once : {r : ℕ} {out′ : List ℕ} → record { next = r; left = out′ } ≡ printed 0 (print-refusal (refusal-told x)) out
-        → record { count = r; left = out′ } ≡ counter-answers input out
-    answered-at-once p = answer-is (printed-there says-at-once out 0 p)
-
-  module _ (x : Refusal) (told : refusal-told x ≡ refusal SHORT 0) (h : length input < trailer-length) where
-    pub room-for-SHORT : length (print-refusal (refusal-told x)) ≤ length out
-    room-for-SHORT = room-at-once x told (shop-SHORT h)
-
-    pub answered-SHORT : {r : ℕ} {out′ : List ℕ} → record { next = r; left = out′ } ≡ printed 0 (print-refusal (refusal-told x)) out
-        → record { count = r; left = out′ } ≡ counter-answers input out
-    answered-SHORT = answered-at-once x told (shop-SHORT h)
-
-  module _ (x : Refusal) (told : refusal-told x ≡ refusal LENGTH 0) (h : trailer-length ≤ length input) (l : most-input < length input) where
-    pub room-for-LENGTH : length (print-refusal (refusal-told x)) ≤ length out
-    room-for-LENGTH = room-at-once x told (shop-LENGTH h l)
-
-    pub answered-LENGTH : {r : ℕ} {out′ : List ℕ} → record { next = r; left = out′ } ≡ printed 0 (print-refusal (refusal-told x)) out
-        → record { count = r; left = out′ } ≡ counter-answers input out
-    answered-LENGTH = answered-at-once x told (shop-LENGTH h l)
+    pub room-for-LENGTH : refusal-told x ≡ refusal LENGTH 0 → trailer-length ≤ length input → most-input < length input
+        → length (print-refusal (refusal-told x)) ≤ length out
+    room-for-LENGTH told h l = room-said (LENGTH-said input x told h l) (length out) room-for-the-answer

@@ -4,7 +4,8 @@ use borrow.Author.Needs.{needs}
 use Rattle.counter.proofs.answer.Statement.{statement}
 use Rattle.counter.proofs.answer.Tie as tie
 use Rattle.book.specs.Told.{name-told}
-use Rattle.counter.proofs.Served.{room-for-the-answer, answer-is, with-its-count, room-for-SHORT, answered-SHORT, room-for-LENGTH, answered-LENGTH}
+use Rattle.counter.proofs.Lines.{printed-there}
+use Rattle.counter.proofs.Served.{answer-is, with-its-count, SHORT-said, LENGTH-said, room-for-the-answer, room-for-SHORT, room-for-LENGTH}
 
 of-requires : tie.Need-of-requires
 of-requires c κs = search needs
@@ -15,7 +16,7 @@ put-refusal-requires c κs = search room-for-SHORT
 
 returns : tie.Need-returns
 unfolding name-told
-returns c = with-its-count _ _ (search answered-SHORT)
+returns c = with-its-count _ _ (search (answer-is, printed-there, SHORT-said))
 
 of-requires-2 : tie.Need-of-requires-2
 of-requires-2 c κs = search needs
@@ -26,7 +27,7 @@ put-refusal-requires-2 c κs = search room-for-LENGTH
 
 returns-2 : tie.Need-returns-2
 unfolding name-told
-returns-2 c = with-its-count _ _ (search answered-LENGTH)
+returns-2 c = with-its-count _ _ (search (answer-is, printed-there, LENGTH-said))
 
 flatten-and-run-requires : tie.Need-flatten-and-run-requires
 flatten-and-run-requires c κs = (search needs, (search needs, search room-for-the-answer))

@@ -4,7 +4,8 @@ use mathlib.Core.Path.{refl}
 use borrow.Author.Needs.{needs}
 use Rattle.counter.proofs.flatten_and_run.Statement.{statement}
 use Rattle.counter.proofs.flatten_and_run.Tie as tie
-use Rattle.counter.proofs.Served.{book-in-front, part-in-front, room-for-its-refusal, its-refusal-printed, product-fits, sum-fits, stands-in-front, room-for-its-run, its-run-printed}
+use Rattle.counter.proofs.Lines.{room-said, printed-there}
+use Rattle.counter.proofs.Served.{book-in-front, part-in-front, refusal-said, product-fits, sum-fits, stands-in-front, run-said}
 
 sub-split : tie.Need-sub-split
 sub-split c = search needs
@@ -28,7 +29,7 @@ enum-known-flattened : tie.Need-enum-known-flattened
 enum-known-flattened c = search needs
 
 put-refusal-requires : tie.Need-put-refusal-requires
-put-refusal-requires c κs = search room-for-its-refusal
+put-refusal-requires c κs = search (room-said, refusal-said)
 
 enum-known-flattened-2 : tie.Need-enum-known-flattened-2
 enum-known-flattened-2 c = search needs
@@ -49,19 +50,19 @@ run-and-print-requires : tie.Need-run-and-print-requires
 run-and-print-requires c κs =
     let flattened = c .before .before .before .before .before .before in
     let (above, (below, room)) = c .before .before .before .before .before .before .before .before .before .before .before .before .pre in
-    (above, room-for-its-run _ above below _ _ refl _ (flattened .before .before .before .routine-read .ensures) _ (flattened .flatten .ensures) (c .before .before .before .flattened2 .given .1) _ room)
+    (above, room-said (run-said _ above below _ _ refl _ (flattened .before .before .before .routine-read .ensures) _ (flattened .flatten .ensures) (c .before .before .before .flattened2 .given .1)) _ room)
 
 same-length : tie.Need-same-length
 same-length c = search needs
 
 returns : tie.Need-returns
-returns c = search its-refusal-printed
+returns c = search (printed-there, refusal-said)
 
 same-length-2 : tie.Need-same-length-2
 same-length-2 c = search needs
 
 returns-2 : tie.Need-returns-2
-returns-2 c = search its-run-printed
+returns-2 c = search (printed-there, run-said)
 
 pub flatten-and-run-spec : {M : Type 1} → statement M
 flatten-and-run-spec =

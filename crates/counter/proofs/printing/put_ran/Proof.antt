@@ -3,13 +3,13 @@
 use borrow.Author.Needs.{needs}
 use Rattle.counter.proofs.printing.put_ran.Statement.{statement}
 use Rattle.counter.proofs.printing.put_ran.Tie as tie
-use Rattle.counter.proofs.Lines.{room-for-its-refusal, its-refusal-printed, room-for-the-outcome, room-for-the-registers, run-printed}
+use Rattle.counter.proofs.Lines.{room-said, printed-there, its-refusal-said, room-for-the-outcome, room-for-the-registers, run-printed}
 
 enum-known-ran : tie.Need-enum-known-ran
 enum-known-ran c = search needs
 
 put-refusal-requires : tie.Need-put-refusal-requires
-put-refusal-requires c κs = search room-for-its-refusal
+put-refusal-requires c κs = search (room-said, its-refusal-said)
 
 enum-known-ran-2 : tie.Need-enum-known-ran-2
 enum-known-ran-2 c = search needs
@@ -24,7 +24,7 @@ same-length : tie.Need-same-length
 same-length c = search needs
 
 returns : tie.Need-returns
-returns c = search its-refusal-printed
+returns c = search (printed-there, its-refusal-said)
 
 same-length-2 : tie.Need-same-length-2
 same-length-2 c = search needs
