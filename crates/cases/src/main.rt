@@ -1,11 +1,8 @@
 // What the counter answers to each sample of document 01, under the sample's name. A file of data/ is a whole standard input.
 use counter::LONGEST_ANSWER;
-use counter::MOST_INPUT;
+use counter::READ_AT_MOST;
 use counter::answer;
 use libc::STDOUT_FILENO;
-
-// As much as the shop's program reads.
-const READ_AT_MOST: usize = MOST_INPUT + 1;
 
 fn case(name: &[u8]) {
     let file = os::open_read(name);

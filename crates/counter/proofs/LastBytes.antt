@@ -8,16 +8,14 @@ use native.Mathlib.Nat.{pow-suc, pow-le-pow-right}
 use mathlib.Core.Path.{_≡_, refl, sym, _∙_, ap}
 use mathlib.Core.List.{List, [], _∷_}
 use lib.ListN.{length, getD, take, drop, length-drop, drop-of-length-le}
-use lib.Seq.{take-all, drop-drop, drop-cons, getD-drop}
+use lib.Seq.{drop-drop, drop-cons, getD-drop}
 use Rattle.scope.specs.Book.{two-byte}
 use Rattle.scope.specs.Steps.{Registers}
 use Rattle.scope.specs.Page.{registers-of}
+use Rattle.counter.proofs.Texts.{the-rest}
 use Rattle.scope.specs.Shop.{trailer-length, trailer-read, routine-read, registers-read, low-byte-first, budget-read}
 
 -- ---- places
-
-the-rest : (xs : List ℕ) (from : ℕ) → take (length xs - from) (drop from xs) ≡ drop from xs
-the-rest xs from = take-all (length xs - from) (drop from xs) (omega (arith, length-drop from xs))
 
 module _ (input : List ℕ) where
   pub routine-there : (r : ℕ) → r ≡ two-byte (take (length input - (length input - 74)) (drop (length input - 74) input)) 0 → r ≡ routine-read input
@@ -40,20 +38,20 @@ module _ (input : List ℕ) where
 
 -- ---- bytes
 
--- what is known of a slice of bytes
-abbrev pub Low : List ℕ → Type 0
-Low xs = (i : ℕ) → Fits w8 (getD xs i 0)
+-- each is a byte, as is known of a slice of them
+abbrev pub All-bytes : List ℕ → Type 0
+All-bytes xs = (i : ℕ) → Fits w8 (getD xs i 0)
 
-pub low-drop : (n : ℕ) (xs : List ℕ) → Low xs → Low (drop n xs)
-low-drop n xs low i = rw (getD-drop n xs i 0) (low (n + i))
+pub bytes-behind : (n : ℕ) (xs : List ℕ) → All-bytes xs → All-bytes (drop n xs)
+bytes-behind n xs known i = rw (getD-drop n xs i 0) (known (n + i))
 
 -- ---- eight bytes
 
 -- Bytes below 256 make a number below 256 to the power of how many they are.
-pub below-a-power : (xs : List ℕ) → Low xs → low-byte-first xs < 256 ^ length xs
+pub below-a-power : (xs : List ℕ) → All-bytes xs → low-byte-first xs < 256 ^ length xs
 unfolding low-byte-first
-below-a-power [] low = omega arith
-below-a-power (x ∷ xs) low = omega (arith, low 0 .fits, below-a-power xs (λ i. low (suc i)), pow-suc 256 (length xs))
+below-a-power [] known = omega arith
+below-a-power (x ∷ xs) known = omega (arith, known 0 .fits, below-a-power xs (λ i. known (suc i)), pow-suc 256 (length xs))
 
 -- The bytes from i on are read.
 pub record Read-from (bytes : List ℕ) (n i : ℕ) : Type 0 where
@@ -67,24 +65,27 @@ module _ (bytes : List ℕ) (long : length bytes ≡ 8) where
 
   module _ (n i : ℕ) (r : Read-from bytes n i) where
     module _ (h : 0 < i) where
-      pub one-more-read : (x : ℕ) → x ≡ getD bytes (i - 1) 0 → Read-from bytes (x + 256 * n) (i - 1)
+      pub one-more-read : Read-from bytes (getD bytes (i - 1) 0 + 256 * n) (i - 1)
       unfolding low-byte-first
-      one-more-read x e =
+      one-more-read =
           let next : suc (i - 1) ≡ i = omega arith in
           let there = drop-cons bytes (i - 1) 0 (omega (arith, r .upto)) ∙ ap (λ k. getD bytes (i - 1) 0 ∷ drop k bytes) next in
-          record { upto = omega (arith, r .upto); says = rw (there, e, r .says) refl }
+          record { upto = omega (arith, r .upto); says = rw (there, r .says) refl }
 
-      module _ (low : Low bytes) where
+      module _ (known : All-bytes bytes) where
         few-yet : n < 256 ^ 7
         few-yet =
             let most = pow-le-pow-right {n = 256} (omega arith) {i = length (drop i bytes)} {j = 7} (omega (arith, length-drop i bytes, long)) in
-            omega (arith, r .says, below-a-power (drop i bytes) (low-drop i bytes low), most)
+            omega (arith, r .says, below-a-power (drop i bytes) (bytes-behind i bytes known), most)
 
-        pub product-fits : Fits w64 (256 * n)
-        product-fits = record { fits = omega (arith, few-yet) }
+        pub byte-fits : Fits w64 (getD bytes (i - 1) 0)
+        byte-fits = record { fits = omega (arith, known (i - 1) .fits) }
 
-        pub sum-fits : (x : ℕ) → x ≡ getD bytes (i - 1) 0 → Fits w64 (x + 256 * n)
-        sum-fits x e = record { fits = omega (arith, few-yet, low (i - 1) .fits, e) }
+        pub shifted-fits : Fits w64 (256 * n)
+        shifted-fits = record { fits = omega (arith, few-yet) }
+
+        pub number-fits : Fits w64 (getD bytes (i - 1) 0 + 256 * n)
+        number-fits = record { fits = omega (arith, few-yet, known (i - 1) .fits) }
 
     pub all-read : i ≤ 0 → n ≡ low-byte-first bytes
     all-read h =

@@ -34,10 +34,9 @@ use Rattle.flatten.proofs.Output.{routine-flattens, n-is-its-length, flat-book-
 use Rattle.unit.specs.declared.Ran.{Ran}
 use Rattle.unit.specs.Told.{ran-told}
 use Rattle.io.specs.Counts.{Counts}
-use Rattle.counter.specs.Printed.{counter-answers, printed, print-answer, print-call}
-use Rattle.counter.proofs.LastBytes.{Low}
-use Rattle.counter.proofs.Lines.{room-said}
-use Rattle.counter.proofs.Longest.{longest-answer}
+use Rattle.counter.specs.Printed.{counter-answers, longest-answer, Room, printed, print-answer, print-call, print-run-of}
+use Rattle.counter.proofs.LastBytes.{All-bytes}
+use Rattle.counter.proofs.Longest.{no-answer-is-longer}
 
 -- how many bytes a part in front has
 pub part-in-front : (k : ℕ) (xs : List ℕ) → k ≤ length xs → k ≡ length (take k xs)
@@ -48,25 +47,24 @@ book-in-front input = part-in-front (length input - 74) input (omega arith)
 
 -- ---- the run
 
-pub the-run-said : (flat input : List ℕ) (rs rs′ : Registers) (budget : ℕ) (r : Ran) → rs ≡ registers-read input → budget ≡ budget-read input
-    → record { answer = ran-told r; left = rs′ } ≡ run-call flat 0 rs budget
-    → print-call (run-call flat 0 (registers-read input) (budget-read input)) ≡ print-answer (ran-told r) rs′
-unfolding print-call
-the-run-said flat input rs rs′ budget r its-registers its-budget told = rw (its-registers, its-budget) at (ap print-call (sym told))
+-- Run with what is read, it is the run that is to be printed.
+pub run-is-printed : (flat input : List ℕ) (rs rs′ : Registers) (budget : ℕ) (r : Ran) → rs ≡ registers-read input → budget ≡ budget-read input
+    → record { answer = ran-told r; left = rs′ } ≡ run-call flat 0 rs budget → print-run-of flat input ≡ print-answer (ran-told r) rs′
+unfolding print-run-of print-call
+run-is-printed flat input rs rs′ budget r its-registers its-budget told = rw (its-registers, its-budget) at (ap print-call (sym told))
 
 -- ---- flattening
 
 module _ (input : List ℕ) (h : trailer-length ≤ length input) (l : length input ≤ most-input) where
   -- A flat book that flattening wrote is run, and the run printed.
-  prints-its-run : Flattens (book-read input) (routine-read input)
-      → print-call (run-call (flat-book (flat-program (book-of (book-read input)) (routine-read input))) 0 (registers-read input) (budget-read input))
-      ≡ shop-prints input
-  unfolding run-call print-call print-answer ran print-run registers-read registers-of shop-run
-  prints-its-run f =
+  shop-prints-its-run : Flattens (book-read input) (routine-read input)
+      → shop-prints input ≡ print-run-of (flat-book (flat-program (book-of (book-read input)) (routine-read input))) input
+  unfolding print-run-of run-call print-call print-answer ran print-run registers-read registers-of shop-run
+  shop-prints-its-run f =
       let says = flat-book-is-taken (book-read input) (f .taken) (routine-read input) (f .not-too-long) in
       let passes = flattened-can-be-run (book-read input) (routine-read input) f (registers-read input) (length-listed _ 0 register-count) in
-      ap print-call (call-where-passed _ _ _ passes) ∙ ap (λ Q. print-run (flat-run Q 0 (budget-read input) (registers-read input))) (says .its-program)
-      ∙ sym (shop-prints-a-run input h l f)
+      shop-prints-a-run input h l f
+      ∙ sym (ap print-call (call-where-passed _ _ _ passes) ∙ ap (λ P. print-run (flat-run P 0 (budget-read input) (registers-read input))) (says .its-program))
 
   module _ (flat flat′ : List ℕ) (long : length flat ≡ 16400) (k : ℕ) (asked : k ≡ routine-read input) (f : Flattened)
       (told : record { answer = flattened-told f; left = flat′ } ≡ flatten-call (take (length input - 74) input) k flat) where
@@ -77,9 +75,9 @@ module _ (input : List ℕ) (h : trailer-length ≤ length input) (l : length in
       refused-before (flattening-before g) = shop-before h l g
       refused-before (flattening-NO-ROOM g small) = absurd (omega (arith, g .not-too-long, small, long))
 
-      pub refusal-said : shop-prints input ≡ print-refusal (refusal-told x)
+      pub shop-prints-its-refusal : shop-prints input ≡ print-refusal (refusal-told x)
       unfolding flatten-call call-of flattened-told book-read
-      refusal-said =
+      shop-prints-its-refusal =
           let answers = ap (λ c. c .answer) (rw (asked, e) at told) in
           shop-prints-a-refusal input (refusal-told x)
           (refused-before (flattening-given-exactly-when _ _ _ _ .0 (refused-exactly-when _ _ _ .0 (sym answers))))
@@ -95,60 +93,47 @@ module _ (input : List ℕ) (h : trailer-length ≤ length input) (l : length in
           let size = n-is-its-length (book-read input) (routine-read input) n flat flat′ (rw (asked, e) at told) in
           omega (arith, size, length-flat-program (book-of (book-read input)) (routine-read input), it-flattens .not-too-long)
 
-      pub product-fits : Fits w64 (4 * n)
-      product-fits = record { fits = omega (arith, n-within) }
+      pub lines-fit : Fits w64 (4 * n)
+      lines-fit = record { fits = omega (arith, n-within) }
 
-      pub sum-fits : Fits w64 (16 + 4 * n)
-      sum-fits = record { fits = omega (arith, n-within) }
+      pub flat-book-fits : Fits w64 (16 + 4 * n)
+      flat-book-fits = record { fits = omega (arith, n-within) }
 
-      pub stands-in-front : length flat′ ≡ length flat → 16 + 4 * n ≤ length flat′
-      stands-in-front same = omega (arith, n-within, long, same)
+      pub flat-book-stands-in-front : length flat′ ≡ length flat → 16 + 4 * n ≤ length flat′
+      flat-book-stands-in-front same = omega (arith, n-within, long, same)
 
-      pub run-said : shop-prints input ≡ print-call (run-call (take (16 + 4 * n) flat′) 0 (registers-read input) (budget-read input))
+      pub shop-prints-the-run-of-it : shop-prints input ≡ print-run-of (take (16 + 4 * n) flat′) input
       unfolding book-read flat-book-bytes
-      run-said =
+      shop-prints-the-run-of-it =
           let front = flat-book-in-front (book-read input) (routine-read input) n flat flat′ (rw (asked, e) at told) in
-          sym (rw front (prints-its-run it-flattens))
+          rw front (shop-prints-its-run it-flattens)
+
+-- ---- by its size alone
+
+module _ (input : List ℕ) (x : Refusal) where
+  -- under 74 bytes
+  pub shop-prints-SHORT : refusal-told x ≡ refusal SHORT 0 → length input < trailer-length → shop-prints input ≡ print-refusal (refusal-told x)
+  shop-prints-SHORT told h = shop-prints-a-refusal input (refusal-told x) (rw told (shop-SHORT h))
+
+  -- over 16,598
+  pub shop-prints-LENGTH : refusal-told x ≡ refusal LENGTH 0 → trailer-length ≤ length input → most-input < length input
+      → shop-prints input ≡ print-refusal (refusal-told x)
+  shop-prints-LENGTH told h l = shop-prints-a-refusal input (refusal-told x) (rw told (shop-LENGTH h l))
 
 -- ---- the answer
 
--- So many bytes are there.
-pub with-its-count : (input out : List ℕ) {r : ℕ} {out′ : List ℕ} → record { count = r; left = out′ } ≡ counter-answers input out
-    → (record { count = r; left = out′ } ≡ counter-answers input out) × Counts r out′
-unfolding counter-answers at-the-front-of
-with-its-count input out {r} {out′} is =
-    let text = shop-prints input in
-    let within : r ≤ length out′ =
-    omega (arith, ap (λ a. a .count) is, ap (λ a. length (a .left)) is, length-append text (drop (length text) out)) in
-    (is, (within, part-in-front r out′ within))
+module _ (input out : List ℕ) where
+  pub room-for-the-answer : All-bytes input → length out ≡ longest-answer → Room 0 (shop-prints input) out
+  room-for-the-answer known long = record { enough = omega (arith, no-answer-is-longer input known, long) }
 
-pub answer-is : (input out : List ℕ) {r : ℕ} {out′ : List ℕ} → record { next = r; left = out′ } ≡ printed 0 (shop-prints input) out
-    → record { count = r; left = out′ } ≡ counter-answers input out
-unfolding printed with-bytes counter-answers at-the-front-of
-answer-is input out {r} {out′} p =
-    let text = shop-prints input in
-    let same : 0 + length text ≡ length text = omega arith in
-    λ i. record { count = (ap (λ q. q .next) p ∙ same) i; left = (ap (λ q. q .left) p ∙ ap (λ n. text ++ drop n out) same) i }
-
--- under 74 bytes, and over 16,598
-module _ (input : List ℕ) (x : Refusal) where
-  pub SHORT-said : refusal-told x ≡ refusal SHORT 0 → length input < trailer-length → shop-prints input ≡ print-refusal (refusal-told x)
-  SHORT-said told h = shop-prints-a-refusal input (refusal-told x) (rw told (shop-SHORT h))
-
-  pub LENGTH-said : refusal-told x ≡ refusal LENGTH 0 → trailer-length ≤ length input → most-input < length input
-      → shop-prints input ≡ print-refusal (refusal-told x)
-  LENGTH-said told h l = shop-prints-a-refusal input (refusal-told x) (rw told (shop-LENGTH h l))
-
--- ---- room for the answer
-
-module _ (input out : List ℕ) (low : Low input) (long : length out ≡ 349) where
-  pub room-for-the-answer : length (shop-prints input) ≤ length out
-  room-for-the-answer = omega (arith, longest-answer input low, long)
-
-  module _ (x : Refusal) where
-    pub room-for-SHORT : refusal-told x ≡ refusal SHORT 0 → length input < trailer-length → length (print-refusal (refusal-told x)) ≤ length out
-    room-for-SHORT told h = room-said (SHORT-said input x told h) (length out) room-for-the-answer
-
-    pub room-for-LENGTH : refusal-told x ≡ refusal LENGTH 0 → trailer-length ≤ length input → most-input < length input
-        → length (print-refusal (refusal-told x)) ≤ length out
-    room-for-LENGTH told h l = room-said (LENGTH-said input x told h l) (length out) room-for-the-answer
+  -- It stands at the front, and so many bytes are there.
+  pub answer-is : {r : ℕ} {out′ : List ℕ} → record { next = r; left = out′ } ≡ printed 0 (shop-prints input) out
+      → (record { count = r; left = out′ } ≡ counter-answers input out) × Counts r out′
+  unfolding printed with-bytes counter-answers at-the-front-of
+  answer-is {r} {out′} p =
+      let text = shop-prints input in
+      let same : 0 + length text ≡ length text = omega arith in
+      let count : r ≡ length text = ap (λ q. q .next) p ∙ same in
+      let left : out′ ≡ text ++ drop (length text) out = ap (λ q. q .left) p ∙ ap (λ n. text ++ drop n out) same in
+      let within : r ≤ length out′ = omega (arith, count, ap length left, length-append text (drop (length text) out)) in
+      ((λ i. record { count = count i; left = left i }), (within, part-in-front r out′ within))

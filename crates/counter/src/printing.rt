@@ -1,24 +1,21 @@
-// How lines are printed: fields are parted by one space, every line ends in byte 10.
+// How lines are printed: fields are parted by one space, every line ends in byte 10. Each function prints a text at a place, asks for room for
+// just that text, and answers where the next one goes.
 ghost use mathlib.Core.Path.{_≡_};
-ghost use Prim.Native.Nat.{_+_, _≤_};
-ghost use lib.ListN.{length};
 ghost use Rattle.scope.specs.Shop.{outcome-line, register-line, register-lines, print-refusal};
 ghost use Rattle.book.specs.Told.{refusal-told};
 ghost use Rattle.unit.specs.Told.{outcome-told, ran-told};
-ghost use Rattle.counter.specs.Printed.{printed, number-and, word-and-two, print-answer};
+ghost use Rattle.counter.specs.Printed.{Room, printed, number-and, two-numbers, word-and-two, print-answer};
 use book::refusals::Refusal;
 use book::refusals::number;
 use unit::Ran;
-use unit::machine::Answer;
 use unit::machine::Outcome;
 
 const SPACE: u8 = 32;
 
 const LINE_END: u8 = 10;
 
-// Each function prints at a place and answers where the next text goes.
 fn put_text(out: &mut [u8], at: usize, text: &[u8]) -> usize
-    requires { ⌜ at + length (now text) ≤ length (now out) ⌝ }
+    requires { ⌜ Room at (now text) (now out) ⌝ }
     ensures { λ r. ⌜ record { next = r; left = now (out .exit) } ≡ printed at (now (text .entry)) (now (out .entry)) ⌝ }
 {
     at + bytes::copy(text, &mut out[at..])
@@ -26,7 +23,7 @@ fn put_text(out: &mut [u8], at: usize, text: &[u8]) -> usize
 
 // A number, and the byte that stands behind it.
 fn put_number(out: &mut [u8], at: usize, n: u64, behind: u8) -> usize
-    requires { ⌜ at + length (number-and n behind) ≤ length (now out) ⌝ }
+    requires { ⌜ Room at (number-and n behind) (now out) ⌝ }
     ensures { λ r. ⌜ record { next = r; left = now (out .exit) } ≡ printed at (number-and n behind) (now (out .entry)) ⌝ }
 {
     let mut digits = [0u8; 20];
@@ -36,19 +33,27 @@ fn put_number(out: &mut [u8], at: usize, n: u64, behind: u8) -> usize
     put_text(out, next, &last)
 }
 
+// Two numbers, parted by a space.
+fn put_two(out: &mut [u8], at: usize, n: u64, m: u64, behind: u8) -> usize
+    requires { ⌜ Room at (two-numbers n m behind) (now out) ⌝ }
+    ensures { λ r. ⌜ record { next = r; left = now (out .exit) } ≡ printed at (two-numbers n m behind) (now (out .entry)) ⌝ }
+{
+    let next = put_number(out, at, n, SPACE);
+    put_number(out, next, m, behind)
+}
+
 // A word and two numbers: every line begins so.
 fn put_word_and_two(out: &mut [u8], at: usize, word: &[u8], n: u64, m: u64, behind: u8) -> usize
-    requires { ⌜ at + length (word-and-two (now word) n m behind) ≤ length (now out) ⌝ }
+    requires { ⌜ Room at (word-and-two (now word) n m behind) (now out) ⌝ }
     ensures { λ r. ⌜ record { next = r; left = now (out .exit) } ≡ printed at (word-and-two (now (word .entry)) n m behind) (now (out .entry)) ⌝ }
 {
-    let first = put_text(out, at, word);
-    let second = put_number(out, first, n, SPACE);
-    put_number(out, second, m, behind)
+    let next = put_text(out, at, word);
+    put_two(out, next, n, m, behind)
 }
 
 // A refusal prints REFUSED, number, place.
 pub(crate) fn put_refusal(out: &mut [u8], x: Refusal) -> usize
-    requires { ⌜ length (print-refusal (refusal-told x)) ≤ length (now out) ⌝ }
+    requires { ⌜ Room 0 (print-refusal (refusal-told x)) (now out) ⌝ }
     ensures { λ r. ⌜ record { next = r; left = now (out .exit) } ≡ printed 0 (print-refusal (refusal-told x)) (now (out .entry)) ⌝ }
 {
     let name = x.name;
@@ -58,7 +63,7 @@ pub(crate) fn put_refusal(out: &mut [u8], x: Refusal) -> usize
 
 // Outcomes print under their names. A FULL line has the register as its last number.
 fn put_outcome(out: &mut [u8], outcome: Outcome, steps: u64, line: u64) -> usize
-    requires { ⌜ length (outcome-line (outcome-told outcome) steps line) ≤ length (now out) ⌝ }
+    requires { ⌜ Room 0 (outcome-line (outcome-told outcome) steps line) (now out) ⌝ }
     ensures { λ r. ⌜ record { next = r; left = now (out .exit) } ≡ printed 0 (outcome-line (outcome-told outcome) steps line) (now (out .entry)) ⌝ }
 {
     match outcome {
@@ -73,7 +78,7 @@ fn put_outcome(out: &mut [u8], outcome: Outcome, steps: u64, line: u64) -> usize
 
 // R with its number, then its value; nothing for a register that is 0.
 fn put_register(out: &mut [u8], at: usize, j: usize, v: u16) -> usize
-    requires { ⌜ at + length (register-line j v) ≤ length (now out) ⌝ }
+    requires { ⌜ Room at (register-line j v) (now out) ⌝ }
     ensures { λ r. ⌜ record { next = r; left = now (out .exit) } ≡ printed at (register-line j v) (now (out .entry)) ⌝ }
 {
     if v == 0 {
@@ -84,7 +89,7 @@ fn put_register(out: &mut [u8], at: usize, j: usize, v: u16) -> usize
 
 // One line for each register that isn't 0, in order.
 fn put_registers(out: &mut [u8], from: usize, regs: &[u16]) -> usize
-    requires { ⌜ from + length (register-lines 0 (now regs)) ≤ length (now out) ⌝ }
+    requires { ⌜ Room from (register-lines 0 (now regs)) (now out) ⌝ }
     ensures { λ r. ⌜ record { next = r; left = now (out .exit) } ≡ printed from (register-lines 0 (now (regs .entry))) (now (out .entry)) ⌝ }
 {
     let mut at = from;
@@ -96,9 +101,9 @@ fn put_registers(out: &mut [u8], from: usize, regs: &[u16]) -> usize
     at
 }
 
-// What a run answers and what it left in the registers.
+// What a run answers, and what it left in the registers.
 pub(crate) fn put_ran(out: &mut [u8], ran: Ran, regs: &[u16]) -> usize
-    requires { ⌜ length (print-answer (ran-told ran) (now regs)) ≤ length (now out) ⌝ }
+    requires { ⌜ Room 0 (print-answer (ran-told ran) (now regs)) (now out) ⌝ }
     ensures { λ r. ⌜ record { next = r; left = now (out .exit) } ≡ printed 0 (print-answer (ran-told ran) (now (regs .entry))) (now (out .entry)) ⌝ }
 {
     match ran {

@@ -32,12 +32,6 @@ pub(crate) fn registers_read(input: &[u8]) -> [u16; REGISTERS]
     registers_of(&input[from..to])
 }
 
-fn wide(b: u8) -> u64
-    ensures { λ r. ⌜ r ≡ b ⌝ }
-{
-    b as u64
-}
-
 // Eight bytes, low byte first.
 fn eight_byte(bytes: &[u8]) -> u64
     requires { ⌜ length (now bytes) ≡ 8 ⌝ }
@@ -47,7 +41,7 @@ fn eight_byte(bytes: &[u8]) -> u64
     let mut i: usize = BUDGET_BYTES;
     while 0 < i {
         i -= 1;
-        n = wide(bytes[i]) + 256 * n;
+        n = bytes[i] as u64 + 256 * n;
     }
     n
 }

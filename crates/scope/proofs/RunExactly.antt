@@ -7,7 +7,7 @@ use native.Mathlib.Omega.{arith}
 use lib.ListN.{length, getD}
 use lib.Seq.{ext-getD}
 use Rattle.scope.specs.Ram.{Program, Configuration, Final}
-use Rattle.scope.specs.Steps.{register-count, Registers, value, Next, Outcome, By-itself, itself-FINISHED, itself-FULL, End, run-on, run-from}
+use Rattle.scope.specs.Steps.{register-count, Registers, value, Values-within, Next, at-the-end, before-full, goes-to, Outcome, By-itself, itself-FINISHED, itself-FULL, End, run-on, run-from}
 use Rattle.scope.specs.Running.{flat-next, flat-run}
 use Rattle.scope.specs.Transitions.{configuration, Our-program, Full, Leads, here, one-more, Reason, finished, out-of-steps, full, Run-ends}
 use Rattle.scope.proofs.Registers.{value-there}
@@ -152,3 +152,34 @@ more-budget {P} ours start budget budget′ rs e len h z stopped le =
     still : {s : ℕ} {c : Configuration} {o : Outcome} → By-itself o → s ≤ budget → Reason P budget s c o → Reason P budget′ s c o
     still itself-FINISHED w (finished f) = finished f
     still itself-FULL w (full nf b f) = full nf (λ c. b (omega (arith, c))) f
+
+-- ---- what every step keeps, a run keeps
+
+module _ {P : Type 0} (next : P → Registers → Next P) (Q : P → Registers → Type 0)
+    (kept : (p p′ : P) (rs rs′ : Registers) → Q p rs → next p rs ≡ goes-to p′ rs′ → Q p′ rs′) where
+  rest-keeps : (left s : ℕ) (p : P) (rs : Registers) (n : Next P) → next p rs ≡ n → Q p rs
+      → Q (run-on next left s p rs n .place) (run-on next left s p rs n .registers)
+  unfolding run-on
+  rest-keeps zero s p rs at-the-end e q = q
+  rest-keeps zero s p rs (before-full r) e q = q
+  rest-keeps zero s p rs (goes-to p′ rs′) e q = q
+  rest-keeps (suc left) s p rs at-the-end e q = q
+  rest-keeps (suc left) s p rs (before-full r) e q = q
+  rest-keeps (suc left) s p rs (goes-to p′ rs′) e q = rest-keeps left (suc s) p′ rs′ (next p′ rs′) refl (kept p p′ rs rs′ q e)
+
+-- at a line of 0 to n, with 32 registers of 0 to 65,535
+pub record Ours (P : Program) (line : ℕ) (rs : Registers) : Type 0 where
+  pub line-within : line ≤ length P
+  pub registers-32 : length rs ≡ register-count
+  pub values-within : Values-within rs
+
+-- A run of our program that starts so ends so.
+pub run-stays-ours :
+    {P : Program} → Our-program P → (start budget : ℕ) (rs : Registers) → Ours P start rs
+    → Ours P (flat-run P start budget rs .place) (flat-run P start budget rs .registers)
+unfolding flat-run run-from
+run-stays-ours {P} ours start budget rs o =
+    rest-keeps (flat-next P) (Ours P) (λ p p′ rs rs′ q e.
+    let s = step.step-is-ram ours (λ j. 0) p rs (q .registers-32) (q .line-within) in
+    record { line-within = s .line-again e; registers-32 = s .registers-again e; values-within = s .values-again (q .values-within) e })
+    budget 0 start rs (flat-next P start rs) refl o

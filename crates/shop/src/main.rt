@@ -1,13 +1,10 @@
 // The shop's program: reads standard input and prints what the counter answers.
 use counter::LONGEST_ANSWER;
-use counter::MOST_INPUT;
+use counter::READ_AT_MOST;
 use counter::answer;
 use libc::STDERR_FILENO;
 use libc::STDIN_FILENO;
 use libc::STDOUT_FILENO;
-
-// One byte more than the longest input that is taken tells that an input is longer.
-const READ_AT_MOST: usize = MOST_INPUT + 1;
 
 fn main() {
     let mut input = [0u8; READ_AT_MOST];

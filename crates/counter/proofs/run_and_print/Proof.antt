@@ -3,8 +3,8 @@
 use borrow.Author.Needs.{needs}
 use Rattle.counter.proofs.run_and_print.Statement.{statement}
 use Rattle.counter.proofs.run_and_print.Tie as tie
-use Rattle.counter.proofs.Lines.{room-said, printed-there}
-use Rattle.counter.proofs.Served.{the-run-said}
+use Rattle.counter.proofs.Texts.{room-there, printed-there}
+use Rattle.counter.proofs.Served.{run-is-printed}
 
 registers-read-requires : tie.Need-registers-read-requires
 registers-read-requires c κs = search needs
@@ -22,13 +22,13 @@ slice-aggregate-put-ran : tie.Need-slice-aggregate-put-ran
 slice-aggregate-put-ran c = search needs
 
 put-ran-requires : tie.Need-put-ran-requires
-put-ran-requires c κs = search (room-said, the-run-said)
+put-ran-requires c κs = search (room-there, run-is-printed)
 
 same-length : tie.Need-same-length
 same-length c = search needs
 
 returns : tie.Need-returns
-returns c = search (printed-there, the-run-said)
+returns c = search (printed-there, run-is-printed)
 
 pub run-and-print-spec : {M : Type 1} → statement M
 run-and-print-spec =

@@ -4,7 +4,8 @@ use borrow.Author.Needs.{needs}
 use Rattle.counter.proofs.printing.put_outcome.Statement.{statement}
 use Rattle.counter.proofs.printing.put_outcome.Tie as tie
 use Rattle.scope.specs.Shop.{ascii}
-use Rattle.counter.proofs.Lines.{room-in-front, printed-there, FINISHED-line, OUT-OF-STEPS-line, room-for-FULL, room-for-its-register, FULL-printed}
+use Rattle.counter.proofs.Texts.{room-there, printed-there, room-for-the-first, room-for-the-second, both-printed}
+use Rattle.counter.proofs.Lines.{FINISHED-line, OUT-OF-STEPS-line, FULL-in-parts}
 
 enum-told : tie.Need-enum-told
 enum-told c = search needs
@@ -14,7 +15,7 @@ slice-aggregate-put-word-and-two c = search needs
 
 put-word-and-two-requires : tie.Need-put-word-and-two-requires
 unfolding ascii
-put-word-and-two-requires c κs = search (room-in-front, FINISHED-line)
+put-word-and-two-requires c κs = search (room-there, FINISHED-line)
 
 enum-told-2 : tie.Need-enum-told-2
 enum-told-2 c = search needs
@@ -24,7 +25,7 @@ slice-aggregate-put-word-and-two-2 c = search needs
 
 put-word-and-two-requires-2 : tie.Need-put-word-and-two-requires-2
 unfolding ascii
-put-word-and-two-requires-2 c κs = search (room-in-front, OUT-OF-STEPS-line)
+put-word-and-two-requires-2 c κs = search (room-there, OUT-OF-STEPS-line)
 
 enum-known-outcome : tie.Need-enum-known-outcome
 enum-known-outcome c = search needs
@@ -34,14 +35,14 @@ slice-aggregate-put-word-and-two-3 c = search needs
 
 put-word-and-two-requires-3 : tie.Need-put-word-and-two-requires-3
 unfolding ascii
-put-word-and-two-requires-3 c κs = search room-for-FULL
+put-word-and-two-requires-3 c κs = room-for-the-first _ _ (c .before .before .before .before .before .before .pre) (FULL-in-parts _ _ _ (c .before .before .before .outcome .given .1))
 
 cast-put-number : tie.Need-cast-put-number
 cast-put-number c = search needs
 
 put-number-requires : tie.Need-put-number-requires
 unfolding ascii
-put-number-requires c κs = search room-for-its-register
+put-number-requires c κs = search (room-for-the-second, FULL-in-parts)
 
 same-length : tie.Need-same-length
 same-length c = search needs
@@ -62,7 +63,7 @@ same-length-3 c = search needs
 
 returns-3 : tie.Need-returns-3
 unfolding ascii
-returns-3 c = search FULL-printed
+returns-3 c = search (both-printed, FULL-in-parts)
 
 pub put-outcome-spec : {M : Type 1} → statement M
 put-outcome-spec =

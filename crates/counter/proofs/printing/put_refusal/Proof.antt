@@ -4,7 +4,8 @@ use borrow.Author.Needs.{needs}
 use Rattle.counter.proofs.printing.put_refusal.Statement.{statement}
 use Rattle.counter.proofs.printing.put_refusal.Tie as tie
 use Rattle.scope.specs.Shop.{ascii}
-use Rattle.counter.proofs.Lines.{room-in-front, printed-there, refusal-line}
+use Rattle.counter.proofs.Texts.{room-there, printed-there}
+use Rattle.counter.proofs.Lines.{refusal-line}
 
 number-requires : tie.Need-number-requires
 number-requires c κs = search needs
@@ -20,7 +21,7 @@ cast-put-word-and-two-2 c = search needs
 
 put-word-and-two-requires : tie.Need-put-word-and-two-requires
 unfolding ascii
-put-word-and-two-requires c κs = search (room-in-front, refusal-line)
+put-word-and-two-requires c κs = search (room-there, refusal-line)
 
 same-length : tie.Need-same-length
 same-length c = search needs

@@ -4,7 +4,8 @@ use borrow.Author.Needs.{needs}
 use Rattle.counter.proofs.printing.put_register.Statement.{statement}
 use Rattle.counter.proofs.printing.put_register.Tie as tie
 use Rattle.scope.specs.Shop.{ascii}
-use Rattle.counter.proofs.Lines.{room-there, printed-there, zero-not-printed, R-says}
+use Rattle.counter.proofs.Texts.{room-there, printed-there}
+use Rattle.counter.proofs.Lines.{R-says, zero-not-printed}
 
 returns : tie.Need-returns
 returns c = search zero-not-printed

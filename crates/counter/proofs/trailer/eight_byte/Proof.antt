@@ -3,7 +3,7 @@
 use borrow.Author.Needs.{needs}
 use Rattle.counter.proofs.trailer.eight_byte.Statement.{statement}
 use Rattle.counter.proofs.trailer.eight_byte.Tie as tie
-use Rattle.counter.proofs.LastBytes.{Read-from, none-read, one-more-read, product-fits, sum-fits, all-read}
+use Rattle.counter.proofs.LastBytes.{Read-from, none-read, one-more-read, byte-fits, shifted-fits, number-fits, all-read}
 
 abbrev Inv-loop : tie.InvT-loop
 Inv-loop bytes n₀ i₀ n i = Read-from bytes n i
@@ -17,17 +17,17 @@ loop-holds c = search none-read
 sub-i : tie.Need-sub-i Inv-loop μ-loop
 sub-i c = search needs
 
-shared-slice-read-wide : tie.Need-shared-slice-read-wide Inv-loop μ-loop
-shared-slice-read-wide c = search needs
+shared-slice-read-n : tie.Need-shared-slice-read-n Inv-loop μ-loop
+shared-slice-read-n c = search needs
 
-wide-requires : tie.Need-wide-requires Inv-loop μ-loop
-wide-requires c κs = search needs
+cast-n : tie.Need-cast-n Inv-loop μ-loop
+cast-n c = search byte-fits
 
 mul-n : tie.Need-mul-n Inv-loop μ-loop
-mul-n c = search product-fits
+mul-n c = search shifted-fits
 
 add-n : tie.Need-add-n Inv-loop μ-loop
-add-n c = search sum-fits
+add-n c = search number-fits
 
 loop-less : tie.Need-loop-less Inv-loop μ-loop
 loop-less c = search needs
@@ -46,8 +46,8 @@ eight-byte-spec =
     μ-loop
     loop-holds
     sub-i
-    shared-slice-read-wide
-    wide-requires
+    shared-slice-read-n
+    cast-n
     mul-n
     add-n
     loop-less
