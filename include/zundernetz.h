@@ -40,7 +40,8 @@ extern "C" {
 /* The kind of a line, its first byte. A flat book has only the first three. */
 enum zn_kind { ZN_INC = 1, ZN_DEC = 2, ZN_GO_TO = 3, ZN_CALL = 4, ZN_REPEAT = 5 };
 
-/* -- refusals -- */
+/* -- refusals: the first test that finds something gives the refusal. The book's tests come first: 1 to 6, and then its lines from the
+   first, each tested 7, 8, 9, 10. Behind them come the call's own, in the order given at each call. -- */
 
 /* Each refusal: number, name in C, name on paper, and what it says to a mill. */
 #define ZN_REFUSALS(ROW) \
@@ -89,7 +90,7 @@ struct zn_flatten_answer {
 };
 
 /* Flattens one routine of a book, with all that it uses. The flat book is written at the front of out: ZN_FLAT_BYTES(n), and so many go to
-   zn_run; bytes behind them stay. It takes some 17 KB of stack. Refused with 1 to 10, 12, 11, 13, 14: the first in this order. */
+   zn_run; bytes behind them stay. It takes some 17 KB of stack. Its own refusals, in order: 12, 11, 13, 14. */
 struct zn_flatten_answer zn_flatten(const uint8_t *book, size_t book_len, size_t routine, uint8_t *out, size_t out_len);
 
 /* -- running -- */
@@ -108,7 +109,7 @@ struct zn_run_answer {
 };
 
 /* Runs a flat book from a start line, with 32 registers and a budget of steps. The registers then hold what the steps left. Nothing but the
-   budget bounds how long it takes. Refused with 1 to 10, 15, 16, 17: the first in this order. */
+   budget bounds how long it takes. Its own refusals, in order: 15, 16, 17. */
 struct zn_run_answer zn_run(const uint8_t *flat, size_t flat_len, size_t start, uint8_t *regs, size_t regs_len, uint64_t budget);
 
 /* -- the quote -- */
@@ -122,8 +123,7 @@ struct zn_quote_answer {
 
 /* Quotes one routine of a book, with all that it uses. The quote is a budget that is enough: a run of the routine's flat program from line
    0 with at least so many steps ends FINISHED or FULL and never OUT OF STEPS, whatever the registers hold. A routine that is not steady has
-   no quote. Nothing is lent to be written. It takes some 1.2 KB of stack. Refused with 1 to 10, 12, 11, 13, 18, 19: the first in this
-   order. */
+   no quote. Nothing is lent to be written. It takes some 1.2 KB of stack. Its own refusals, in order: 12, 11, 13, 18, 19. */
 struct zn_quote_answer zn_quote(const uint8_t *book, size_t book_len, size_t routine);
 
 /* -- the layout that libpage.a has: each field at its offset, with so many bytes. Where a compiler has another, this is an error. -- */
