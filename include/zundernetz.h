@@ -50,7 +50,7 @@ enum zn_kind { ZN_INC = 1, ZN_DEC = 2, ZN_GO_TO = 3, ZN_CALL = 4, ZN_REPEAT = 5 
     ROW(3, ZN_COUNTS, "COUNTS", "the book states no routine, more than 32 routines, or more than 4,096 lines") \
     ROW(4, ZN_OFFSETS, "OFFSETS", "an offset or the length in the book's header does not fit its counts") \
     ROW(5, ZN_LENGTH, "LENGTH", "the book has more or fewer bytes than its header states") \
-    ROW(6, ZN_ROUTINE, "ROUTINE", "a routine does not start where the one before ended, or the last does not end with the last line") \
+    ROW(6, ZN_ROUTINE, "ROUTINE", "the routines do not lie one after another, without gap or overlap, from line 0 to the last line") \
     ROW(7, ZN_KIND, "KIND", "a line is none of INC, DEC, GO TO, CALL and REPEAT") \
     ROW(8, ZN_REGISTER, "REGISTER", "a line has a register above 31, or a GO TO or CALL has one that is not 0") \
     ROW(9, ZN_TARGET, "TARGET", "a jump goes past its routine's end, or an INC has an operand that is not 0") \
