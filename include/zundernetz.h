@@ -128,9 +128,16 @@ struct zn_quote_answer zn_quote(const uint8_t *book, size_t book_len, size_t rou
 
 /* -- the layout that libpage.a has: each field at its offset, with so many bytes. Where a compiler has another, this is an error. -- */
 
+/* The bytes of a field: in C++ without a cast, since its compilers can warn of casts as C writes them. */
+#ifdef __cplusplus
+#define ZN_BYTES(answer, field) sizeof(answer().field)
+#else
+#define ZN_BYTES(answer, field) sizeof(((struct answer *)0)->field)
+#endif
+
 #define ZN_HOLDS(name, fact) typedef char zn_holds_##name[(fact) ? 1 : -1]
 #define ZN_AT(answer, field, offset, bytes) \
-    ZN_HOLDS(answer##_##field, offsetof(struct answer, field) == offset && sizeof(((struct answer *)0)->field) == bytes)
+    ZN_HOLDS(answer##_##field, offsetof(struct answer, field) == offset && ZN_BYTES(answer, field) == bytes)
 
 ZN_HOLDS(zn_flatten_answer, sizeof(struct zn_flatten_answer) == 16);
 ZN_AT(zn_flatten_answer, refusal, 0, 2);
@@ -155,6 +162,7 @@ ZN_HOLDS(a_row_for_each_refusal, sizeof zn_refusals / sizeof zn_refusals[0] == Z
 
 #undef ZN_AT
 #undef ZN_HOLDS
+#undef ZN_BYTES
 
 #ifdef __cplusplus
 }
