@@ -139,9 +139,8 @@ static uint64_t chosen_budget(const struct asked *a, struct zn_quote_answer q, c
 
 static void show_run(struct zn_run_answer r, const uint8_t regs[ZN_REGISTER_BYTES])
 {
-    static const char *const outcomes[] = {"", "FINISHED", "OUT OF STEPS", "FULL"};
     int all_0 = 1;
-    printf("%s, steps %llu, line %zu", outcomes[r.outcome], (unsigned long long)r.steps, r.line);
+    printf("%s, steps %llu, line %zu", zn_outcomes[r.outcome], (unsigned long long)r.steps, r.line);
     if (r.outcome == ZN_FULL)
         printf(", register %u", (unsigned)r.reg);
     printf("\n");

@@ -98,6 +98,9 @@ struct zn_flatten_answer zn_flatten(const uint8_t *book, size_t book_len, size_t
 /* The outcome of a run. 0 where it is refused. */
 enum zn_outcome { ZN_FINISHED = 1, ZN_OUT_OF_STEPS = 2, ZN_FULL = 3 };
 
+/* The name of each on paper, by number. */
+static const char *const zn_outcomes[] = {"REFUSED", "FINISHED", "OUT OF STEPS", "FULL"};
+
 /* What a run answers. Where it is refused, all but refusal and place are 0. */
 struct zn_run_answer {
     uint16_t refusal; /* ZN_ACCEPTED, or the number of the refusal */
@@ -159,6 +162,7 @@ ZN_AT(zn_quote_answer, quote, 8, 8);
 
 ZN_HOLDS(size_t, sizeof(size_t) == 8);
 ZN_HOLDS(a_row_for_each_refusal, sizeof zn_refusals / sizeof zn_refusals[0] == ZN_QUOTE + 1);
+ZN_HOLDS(a_name_for_each_outcome, sizeof zn_outcomes / sizeof zn_outcomes[0] == ZN_FULL + 1);
 
 #undef ZN_AT
 #undef ZN_HOLDS

@@ -1,4 +1,4 @@
-/* The header by itself, read as C and as C++: every declaration is used, and every row of the refusals is as document 01 has it. */
+/* The header by itself, read as C and as C++: every declaration is used, and refusals and outcomes are as document 01 has them. */
 #include "../include/zundernetz.h"
 #include "report.h"
 
@@ -66,6 +66,22 @@ static void the_list(void)
     check((0 ZN_REFUSALS(AS_SUM)) == 190 && (0 ZN_REFUSALS(AS_LENGTHS)) == letters, "the list of refusals can be used again");
 }
 
+/* -- outcomes -- */
+
+/* Document 01, "Running" and "The shop's program and the page". */
+static const struct {
+    int in_c;
+    const char *name;
+} outcomes[] = {{0, "REFUSED"}, {ZN_FINISHED, "FINISHED"}, {ZN_OUT_OF_STEPS, "OUT OF STEPS"}, {ZN_FULL, "FULL"}};
+
+static void names_of_outcomes(void)
+{
+    int rows = sizeof outcomes / sizeof outcomes[0];
+    check(rows == sizeof zn_outcomes / sizeof zn_outcomes[0], "as many names as there are outcomes, and REFUSED");
+    for (int i = 0; i < rows; i++)
+        check(outcomes[i].in_c == i && strcmp(zn_outcomes[i], outcomes[i].name) == 0, outcomes[i].name);
+}
+
 /* -- constants -- */
 
 static void constants(void)
@@ -75,7 +91,6 @@ static void constants(void)
     check(ZN_FLAT_BYTES(0) == 16 && ZN_FLAT_BYTES(2 + 1) == 28, "the bytes of a flat book");
     check(ZN_REGISTER_COUNT == 32 && ZN_REGISTER_BYTES == 64, "the registers");
     check(ZN_INC == 1 && ZN_DEC == 2 && ZN_GO_TO == 3 && ZN_CALL == 4 && ZN_REPEAT == 5, "the kinds");
-    check(ZN_FINISHED == 1 && ZN_OUT_OF_STEPS == 2 && ZN_FULL == 3, "the outcomes");
 }
 
 /* -- the calls -- */
@@ -115,6 +130,7 @@ int main(void)
 {
     rows();
     the_list();
+    names_of_outcomes();
     constants();
     accepted();
     refused();

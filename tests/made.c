@@ -198,7 +198,6 @@ static void check_tally(const struct tally *t, const int own[], size_t n)
 
 int main(int argc, char **argv)
 {
-    static const char *const outcomes[] = {"refused", "FINISHED", "OUT OF STEPS", "FULL"};
     unsigned long cases = argc > 1 ? strtoul(argv[1], 0, 10) : 200000;
     uint64_t from = argc > 2 ? strtoull(argv[2], 0, 10) : 20261115;
     seed(from);
@@ -211,8 +210,8 @@ int main(int argc, char **argv)
         one_quote(i);
     check_tally(&runs, (const int[]){NOT_FLAT, REGISTERS, LINE}, 3);
     for (int o = FINISHED; o <= FULL; o++) {
-        printf("zn_run %s: %lu\n", outcomes[o], ended[o]);
-        check(ended[o] > 0, outcomes[o]);
+        printf("zn_run %s: %lu\n", zn_outcomes[o], ended[o]);
+        check(ended[o] > 0, zn_outcomes[o]);
     }
     check_tally(&flattenings, (const int[]){NO_ROUTINE, TOO_LONG, NO_ROOM}, 3);
     printf("zn_flatten: %lu of 4,090 to 4,096 flat lines, %lu of 4,097 to 4,100\n", near_below, near_above);

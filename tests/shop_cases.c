@@ -1,5 +1,6 @@
 /* The shop's program on inputs by hand and on made ones, good and damaged: what it prints must be what document 01 in plain C prints, byte
    by byte. Usage: shop_cases PROGRAM [CASES [SEED]], with some thousand cases, so that every refusal comes. */
+#include "../include/zundernetz.h"
 #include "making.h"
 #include "paper.h"
 #include "paper_shop.h"
@@ -237,7 +238,6 @@ static void made(unsigned long cases)
 static void check_what_came(void)
 {
     static const int earned[] = {SHORT, FORMAT, COUNTS, OFFSETS, LENGTH, ROUTINE, KIND, REGISTER, TARGET, CALLEE, NO_ROUTINE, TOO_LONG};
-    static const char *const outcomes[] = {"", "FINISHED", "OUT OF STEPS", "FULL"};
     char name[40];
     for (size_t i = 0; i < sizeof earned / sizeof *earned; i++) {
         snprintf(name, sizeof name, "REFUSED %d was due", earned[i]);
@@ -245,8 +245,8 @@ static void check_what_came(void)
         check(came[earned[i]] > 0, name);
     }
     for (int o = FINISHED; o <= FULL; o++) {
-        printf("%s: %lu\n", outcomes[o], ended[o]);
-        check(ended[o] > 0, outcomes[o]);
+        printf("%s: %lu\n", zn_outcomes[o], ended[o]);
+        check(ended[o] > 0, zn_outcomes[o]);
     }
     printf("under 74 bytes: %lu, over 16,598: %lu; %lu differ\n", under, over, differing);
     check(under > 0 && over > 0, "inputs that are too short and too long");
