@@ -1,19 +1,15 @@
 /* Zundernetz for C: flattening a routine of a book, running a flat book, and the quote of a routine's longest run. Link with libpage.a
-   (`rt staticlib page`), on x86-64 Linux. It is read as C99 and later and as C++98 and later. docs/C-INTERFACE.md says every answer field
-   by field, docs/REFUSALS.md what each refusal means to a mill, and examples/page.c is a whole page. The way from a book to an outcome:
+   (`rt staticlib page`), on x86-64 Linux. It is read as C99 and later and as C++98 and later.
 
-       uint8_t flat[ZN_MOST_FLAT_BYTES], regs[ZN_REGISTER_BYTES] = {0};
-       struct zn_flatten_answer f = zn_flatten(book, book_len, routine, flat, sizeof flat);
-       struct zn_quote_answer q = zn_quote(book, book_len, routine);
-       uint64_t budget = q.refusal == ZN_ACCEPTED && q.quote < what_we_wait_for ? q.quote : what_we_wait_for;
-       if (f.refusal != ZN_ACCEPTED)
-           printf("%d %s %d: %s\n", f.refusal, zn_refusals[f.refusal].name, f.place, zn_refusals[f.refusal].text);
-       else
-           answer = zn_run(flat, ZN_FLAT_BYTES(f.lines), 0, regs, sizeof regs, budget);
+   The way from a book to an outcome: zn_flatten writes the flat book of a routine, zn_quote gives a budget that is enough for it, and
+   zn_run runs the flat book with that budget, or with one that can be waited for. In each answer look at refusal first. docs/C-INTERFACE.md
+   has this as a small program and says every answer field by field, docs/REFUSALS.md what each refusal means to a mill; examples/page.c is
+   a whole page.
 
    What the caller owes, in every call: a pointer points to as many bytes as the length behind it says, and where that length is 0 it may be
-   NULL; two slices of one call do not overlap, and nothing else changes them during the call. Any bytes and any numbers may be given. No
-   call relies on an earlier one, and none allocates memory. A refusal writes nothing but the answer. */
+   NULL; two slices of one call do not overlap, and nothing else changes them during the call. Any bytes and any numbers may be given, and
+   no alignment is needed. No call relies on an earlier one, and none allocates memory. A refusal writes nothing but the answer. Calls can
+   be made at the same time, and may share a book that is only read. */
 #ifndef ZUNDERNETZ_H
 #define ZUNDERNETZ_H
 
@@ -33,7 +29,7 @@ extern "C" {
 /* The bytes of a flat book of so many lines. */
 #define ZN_FLAT_BYTES(lines) (16 + 4 * (lines))
 
-/* The registers are R0 to R31, two bytes for each, low byte first. */
+/* The registers are R0 to R31, two bytes for each, low byte first: on x86-64 as in a uint16_t[32]. */
 #define ZN_REGISTER_COUNT 32
 #define ZN_REGISTER_BYTES 64
 
@@ -89,8 +85,9 @@ struct zn_flatten_answer {
     size_t lines;     /* the flat length n, 0 to 4,096 */
 };
 
-/* Flattens one routine of a book, with all that it uses. The flat book is written at the front of out: ZN_FLAT_BYTES(n), and so many go to
-   zn_run; bytes behind them stay. It takes some 17 KB of stack. Its own refusals, in order: 12, 11, 13, 14. */
+/* Flattens one routine of a book, with all that it uses. The flat book is written at the front of out, which need not be filled before:
+   ZN_FLAT_BYTES(n), and so many go to zn_run; bytes behind them stay. It takes some 17 KB of stack. Its own refusals, in order: 12, 11, 13,
+   14. */
 struct zn_flatten_answer zn_flatten(const uint8_t *book, size_t book_len, size_t routine, uint8_t *out, size_t out_len);
 
 /* -- running -- */

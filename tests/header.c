@@ -116,6 +116,33 @@ static void accepted(void)
     check(whole.refusal == ZN_LENGTH, "the whole room is no flat book");
 }
 
+/* What is lent may begin at any address. */
+static void at_any_address(void)
+{
+    static uint8_t rooms[3][16 + ZN_MOST_FLAT_BYTES];
+    int right = 1;
+    for (int at = 0; at < 16; at++) {
+        uint8_t *b = rooms[0] + at, *flat = rooms[1] + at, *regs = rooms[2] + at;
+        memcpy(b, book, sizeof book);
+        memset(regs, 0, ZN_REGISTER_BYTES);
+        regs[0] = 3, regs[2] = 4;
+        struct zn_flatten_answer f = zn_flatten(b, sizeof book, 1, flat, ZN_MOST_FLAT_BYTES);
+        struct zn_quote_answer q = zn_quote(b, sizeof book, 1);
+        struct zn_run_answer a = zn_run(flat, ZN_FLAT_BYTES(f.lines), 0, regs, ZN_REGISTER_BYTES, 10);
+        right = right && f.lines == 3 && q.quote == 196606 && a.outcome == ZN_FINISHED && a.steps == 10 && regs[0] == 0 && regs[2] == 7;
+    }
+    check(right, "slices at any address");
+}
+
+static void registers_as_numbers(void)
+{
+    uint8_t flat[ZN_MOST_FLAT_BYTES];
+    uint16_t regs[ZN_REGISTER_COUNT] = {3, 510};
+    struct zn_flatten_answer f = zn_flatten(book, sizeof book, 1, flat, sizeof flat);
+    struct zn_run_answer a = zn_run(flat, ZN_FLAT_BYTES(f.lines), 0, (uint8_t *)regs, sizeof regs, 10);
+    check(a.outcome == ZN_FINISHED && regs[0] == 0 && regs[1] == 513 && regs[2] == 0, "numbers of 16 bits lent as the registers");
+}
+
 static void refused(void)
 {
     check(zn_flatten(0, 0, 0, 0, 0).refusal == ZN_SHORT, "flattening of nothing");
@@ -133,6 +160,8 @@ int main(void)
     names_of_outcomes();
     constants();
     accepted();
+    at_any_address();
+    registers_as_numbers();
     refused();
     return report();
 }
