@@ -1,7 +1,7 @@
 /* A small page: shows a routine's flat program, its quote, and a run of it.
    Usage: page BOOK-FILE ROUTINE [BUDGET [R=V ...]], for example: page samples/A.book 1 10 0=3 1=4
    Registers that are not given are 0. Without a budget it is the quote, where that can be waited for. */
-#include "../include/zundernetz.h"
+#include "zundernetz.h"
 
 #include <errno.h>
 #include <stdio.h>
