@@ -50,6 +50,17 @@ struct book nested(unsigned routines, const unsigned counts[], const unsigned li
     return book_of(&t);
 }
 
+void write_input(struct book *input, const struct book *b, unsigned routine, const uint8_t registers[64], uint64_t budget)
+{
+    size_t at = b->length;
+    memcpy(input->bytes, b->bytes, at);
+    put(input, at, routine);
+    memcpy(input->bytes + at + 2, registers, 64);
+    for (size_t i = 0; i < 8; i++)
+        input->bytes[at + 66 + i] = (uint8_t)(budget >> 8 * i);
+    input->length = at + TRAILER;
+}
+
 void add_routine(struct text *t) { t->counts[t->routines++] = 0; }
 
 void add_lines(struct text *t, unsigned times, unsigned kind, unsigned reg, unsigned operand)

@@ -29,6 +29,14 @@ struct book flat(unsigned n, const unsigned lines[][3]);
 /* A book of some routines with so many lines each. The lines stand one routine after another. */
 struct book nested(unsigned routines, const unsigned counts[], const unsigned lines[][3]);
 
+/* -- what the shop's program is given -- */
+
+/* The bytes behind the book, and those of the longest input. */
+enum { TRAILER = 74, MOST_INPUT = 16598 };
+
+/* The book, and behind it routine, registers and budget. What stands behind the input's bytes is left there. */
+void write_input(struct book *input, const struct book *b, unsigned routine, const uint8_t registers[64], uint64_t budget);
+
 /* -- a book that grows, routine by routine and line by line -- */
 
 struct text {

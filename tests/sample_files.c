@@ -9,7 +9,7 @@
 #include <stdio.h>
 #include <string.h>
 
-enum { REFUSED_FLAT = -1, MOST_INPUT = 16524 + 74 };
+enum { REFUSED_FLAT = -1 };
 
 /* Flat length, and quote or the number with which it is refused, are those of samples/README.md. A register has its number and value; those
    not named are 0. */
@@ -74,42 +74,40 @@ static int files(const char *ending)
 
 /* -- a case -- */
 
-/* The book, and then routine, registers and budget. Answers how many bytes that is. */
-static size_t write_input(uint8_t input[MOST_INPUT], const struct book *b, const struct sample *s)
+static struct book input_of(const struct book *b, const struct sample *s)
 {
-    struct book behind = {{0}, 74};
-    put(&behind, 0, s->routine);
-    for (int i = 0; i < 2; i++)
-        if (s->registers[i][1] > 0)
-            put(&behind, 2 + 2 * s->registers[i][0], s->registers[i][1]);
-    for (int i = 0; i < 8; i++)
-        behind.bytes[66 + i] = (uint8_t)(s->budget >> 8 * i);
-    memcpy(input, b->bytes, b->length);
-    memcpy(input + b->length, behind.bytes, 74);
-    return b->length + 74;
+    struct book input = {{0}, 0};
+    uint8_t registers[64] = {0};
+    for (int i = 0; i < 2; i++) {
+        unsigned j = s->registers[i][0], value = s->registers[i][1];
+        if (value > 0) {
+            registers[2 * j] = (uint8_t)value;
+            registers[2 * j + 1] = (uint8_t)(value >> 8);
+        }
+    }
+    write_input(&input, b, s->routine, registers, s->budget);
+    return input;
 }
 
 /* What document 01 in plain C says of the case is what is typed above. */
-static int is_worked_out(const struct book *b, const struct sample *s, const uint8_t *input, size_t length)
+static int is_worked_out(const struct book *b, const struct sample *s, const struct book *input)
 {
     char printed[MOST_PRINTED + 1];
     uint8_t out[16 + 4 * MOST_LINES];
     struct flattened f = paper_flatten(b->bytes, b->length, s->routine, out, sizeof out);
     struct quoted q = paper_quote(b->bytes, b->length, s->routine);
     int flat = s->flat == REFUSED_FLAT ? f.refusal.number != 0 : f.refusal.number == 0 && f.lines == (size_t)s->flat;
-    paper_shop(input, length, printed);
+    paper_shop(input->bytes, input->length, printed);
     return flat && q.refusal.number == s->not_quoted && q.quote == s->quote && strcmp(printed, s->printed) == 0;
 }
 
 static void check_sample(const struct sample *s)
 {
-    uint8_t input[MOST_INPUT];
-    struct book b = s->book();
-    size_t length = write_input(input, &b, s);
+    struct book b = s->book(), input = input_of(&b, s);
     check_file(s->name, ".book", b.bytes, b.length);
-    check_file(s->name, ".stdin", input, length);
+    check_file(s->name, ".stdin", input.bytes, input.length);
     check_file(s->name, ".stdout", s->printed, strlen(s->printed));
-    check(is_worked_out(&b, s, input, length), s->name);
+    check(is_worked_out(&b, s, &input), s->name);
 }
 
 int main(void)

@@ -14,11 +14,11 @@
 #include <sys/wait.h>
 #include <unistd.h>
 
-enum { TRAILER = 74, MOST_INPUT = 16598, SHORT_RUN = 200000, SECONDS = 10 };
+enum { SHORT_RUN = 200000, SECONDS = 10 };
 
 static char *program;
 
-/* What is given to the program: a book, and what is asked of it. */
+/* A made book, and what is given to the program: a book and what is asked of it. */
 static struct book book, input;
 
 /* -- the program -- */
@@ -99,19 +99,6 @@ static int prints(const char *due, const char *name)
     return right;
 }
 
-/* -- inputs -- */
-
-/* The book as it is now, and behind it the 74 bytes: routine, registers, budget. */
-static void write_input(unsigned routine, const uint8_t registers[64], uint64_t budget)
-{
-    memcpy(input.bytes, book.bytes, book.length);
-    put(&input, book.length, routine);
-    memcpy(input.bytes + book.length + 2, registers, 64);
-    for (int i = 0; i < 8; i++)
-        input.bytes[book.length + 66 + (size_t)i] = (uint8_t)(budget >> 8 * i);
-    input.length = book.length + TRAILER;
-}
-
 /* -- by hand -- */
 
 /* All registers hold the same. */
@@ -120,8 +107,7 @@ static void by_hand(const char *name, struct book b, unsigned routine, unsigned 
     uint8_t registers[64];
     for (int i = 0; i < 64; i++)
         registers[i] = (uint8_t)(i % 2 ? value >> 8 : value);
-    book = b;
-    write_input(routine, registers, budget);
+    write_input(&input, &b, routine, registers, budget);
     check(prints(due, name), name);
 }
 
@@ -160,8 +146,7 @@ static void long_inputs(void)
     line(&bad, 32, 4095, 6, 0, 0);
     by_hand("16,598 bytes", most, 31, 0, 9, "FINISHED 1 128\n");
     by_hand("16,598 bytes, the last line bad", bad, 31, 0, 9, "REFUSED 7 4095\n");
-    book = most;
-    write_input(31, (const uint8_t[64]){0}, 9);
+    write_input(&input, &most, 31, (const uint8_t[64]){0}, 9);
     input.bytes[input.length++] = 0;
     check(input.length == MOST_INPUT + 1 && prints("REFUSED 5 0\n", "16,599 bytes"), "16,599 bytes");
     by_hand("thirty doublings of an empty routine", tower_over_empty(2), 30, 0, 0, "FINISHED 0 0\n");
@@ -206,7 +191,7 @@ static void make_input(void)
     unsigned routine = (unsigned)(one_in(12) ? routines + below(3) : one_in(20) ? 256 * (1 + below(255)) : below(routines));
     uint8_t registers[64];
     make_registers(registers, 32);
-    write_input(routine, registers, made_budget(routine));
+    write_input(&input, &book, routine, registers, made_budget(routine));
     if (one_in(10))
         damage_length();
 }
