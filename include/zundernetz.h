@@ -1,10 +1,10 @@
 /* Zundernetz for C: flattening a routine of a book, running a flat book, and the quote of a routine's longest run. Link with libpage.a
    (`rt staticlib page`), on x86-64 Linux. It is read as C99 and later and as C++98 and later.
 
-   The way from a book to an outcome: zn_flatten writes the flat book of a routine, zn_quote gives a budget that is enough for it, and
-   zn_run runs the flat book with that budget, or with one that can be waited for. In each answer look at refusal first. docs/C-INTERFACE.md
-   has this as a small program and says every answer field by field, docs/REFUSALS.md what each refusal means to a mill; examples/page.c is
-   a whole page.
+   The way from a book to an outcome: zn_flatten writes the flat book of a routine, zn_quote gives a budget that is enough where the routine
+   is steady, and zn_run runs the flat book with that budget, or with one that can be waited for. In each answer look at refusal first.
+   docs/C-INTERFACE.md has this as a small program and says every answer field by field, docs/REFUSALS.md what each refusal means to a mill;
+   examples/page.c is a whole page.
 
    What the caller owes, in every call: a pointer points to as many bytes as the length behind it says, and where that length is 0 it may be
    NULL; two slices of one call do not overlap, and nothing else changes them during the call. Any bytes and any numbers may be given, and
