@@ -6,7 +6,7 @@ use mathlib.Core.Path.{_≡_, refl, ap}
 use mathlib.Core.List.{List, [], _∷_}
 use lib.ListN.{length, length-append, take, drop, length-drop}
 use Rattle.scope.specs.Words.{listed}
-use Rattle.scope.specs.Refusals.{number, Refusal, Verdict, pass, refuse}
+use Rattle.scope.specs.Refusals.{Name, number, Refusal, refusal, Verdict, pass, refuse}
 use Rattle.scope.specs.Ram.{INC, Program, Configuration}
 use Rattle.scope.specs.Book.{header-bytes, entry-bytes, byte, two-byte, routines, first-line, count, line-number}
 use Rattle.scope.specs.Steps.{register-count, top, Registers, value, Values-within, Outcome, FINISHED, FULL}
@@ -123,6 +123,9 @@ record Short-refusal (x : Refusal) : Type 0 where
   number-short : number (x .name) < 10 ^ 2
   place-short : x .place < 10 ^ 6
 
+at-0 : {n : Name} → number n < 10 ^ 2 → Short-refusal (refusal n 0)
+at-0 h = record { number-short = h; place-short = omega arith }
+
 refusal-within : (x : Refusal) → Short-refusal x → length (print-refusal x) ≤ longest-answer
 unfolding ascii
 refusal-within x s =
@@ -136,11 +139,11 @@ module _ (b : List ℕ) (known : All-bytes b) where
 
   given-short : {x : Refusal} → Given b x → Short-refusal x
   unfolding number routines Past-KIND Past-REGISTER Past-TARGET
-  given-short (gives-SHORT s) = record { number-short = omega arith; place-short = omega arith }
-  given-short (gives-FORMAT p w) = record { number-short = omega arith; place-short = omega arith }
-  given-short (gives-COUNTS p w) = record { number-short = omega arith; place-short = omega arith }
-  given-short (gives-OFFSETS p w) = record { number-short = omega arith; place-short = omega arith }
-  given-short (gives-LENGTH p w) = record { number-short = omega arith; place-short = omega arith }
+  given-short (gives-SHORT s) = at-0 (omega arith)
+  given-short (gives-FORMAT p w) = at-0 (omega arith)
+  given-short (gives-COUNTS p w) = at-0 (omega arith)
+  given-short (gives-OFFSETS p w) = at-0 (omega arith)
+  given-short (gives-LENGTH p w) = at-0 (omega arith)
   given-short (gives-ROUTINE r p h w) = record { number-short = omega arith; place-short = omega (arith, h, two-byte-within b known 2) }
   given-short (gives-ROUTINE-last p w) = record { number-short = omega arith; place-short = omega (arith, two-byte-within b known 2) }
   given-short (gives-KIND r j c w) = record { number-short = omega arith; place-short = line-short r j c }
@@ -155,12 +158,12 @@ module _ (input : List ℕ) (known : All-bytes input) where
 
   shop-short : {x : Refusal} → Given-in-the-shop input x → Short-refusal x
   unfolding number
-  shop-short (shop-SHORT h) = record { number-short = omega arith; place-short = omega arith }
-  shop-short (shop-LENGTH h l) = record { number-short = omega arith; place-short = omega arith }
+  shop-short (shop-SHORT h) = at-0 (omega arith)
+  shop-short (shop-LENGTH h l) = at-0 (omega arith)
   shop-short (shop-before h l (to-flatten-the-book g)) = given-short (book-read input) book-bytes g
-  shop-short (shop-before h l (to-flatten-NO-ROUTINE t k)) = record { number-short = omega arith; place-short = omega arith }
-  shop-short (shop-before h l (to-flatten-DEPTH t k o)) = record { number-short = omega arith; place-short = omega arith }
-  shop-short (shop-before h l (to-flatten-TOO-LONG t k o m)) = record { number-short = omega arith; place-short = omega arith }
+  shop-short (shop-before h l (to-flatten-NO-ROUTINE t k)) = at-0 (omega arith)
+  shop-short (shop-before h l (to-flatten-DEPTH t k o)) = at-0 (omega arith)
+  shop-short (shop-before h l (to-flatten-TOO-LONG t k o m)) = at-0 (omega arith)
 
   -- ---- a run
 
