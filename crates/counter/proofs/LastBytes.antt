@@ -2,14 +2,14 @@
 -- Both drop as many bytes; eight bytes are read from the last down, and bytes below 256 make less than 256^8. Assumes nothing.
 use mir.Syntax.{w8, w64}
 use mir.Val.{Fits}
-use Prim.Native.Nat.{ℕ, suc, _+_, _-_, _*_, _^_, _≤_, _<_}
+use Prim.Native.Nat.{ℕ, zero, suc, _+_, _-_, _*_, _^_, _≤_, _<_}
 use native.Mathlib.Omega.{arith}
 use native.Mathlib.Nat.{pow-suc, pow-le-pow-right}
 use mathlib.Core.Path.{_≡_, refl, sym, _∙_, ap}
 use mathlib.Core.List.{List, [], _∷_}
 use lib.ListN.{length, getD, take, drop, length-drop, drop-of-length-le}
 use lib.Seq.{drop-drop, drop-cons, getD-drop}
-use Rattle.scope.specs.Book.{two-byte}
+use Rattle.scope.specs.Book.{byte, Bytes, two-byte}
 use Rattle.scope.specs.Steps.{Registers}
 use Rattle.scope.specs.Page.{registers-of}
 use Rattle.counter.proofs.Texts.{the-rest}
@@ -38,20 +38,30 @@ module _ (input : List ℕ) where
 
 -- ---- bytes
 
--- each is a byte, as is known of a slice of them
-abbrev pub All-bytes : List ℕ → Type 0
-All-bytes xs = (i : ℕ) → Fits w8 (getD xs i 0)
+-- as is known of a slice of bytes
+pub slice-has-bytes : (xs : List ℕ) → ((i : ℕ) → Fits w8 (getD xs i 0)) → Bytes xs
+unfolding Bytes byte
+slice-has-bytes xs known i h = known i .fits
 
-pub bytes-behind : (n : ℕ) (xs : List ℕ) → All-bytes xs → All-bytes (drop n xs)
-bytes-behind n xs known i = rw (getD-drop n xs i 0) (known (n + i))
+-- behind the last there stands 0
+pub byte-below-256 : (xs : List ℕ) → Bytes xs → (i : ℕ) → byte xs i < 256
+unfolding Bytes byte
+byte-below-256 [] known i = omega arith
+byte-below-256 (x ∷ xs) known zero = known 0 (omega arith)
+byte-below-256 (x ∷ xs) known (suc i) = byte-below-256 xs (λ k h. known (suc k) (omega arith)) i
+
+pub bytes-behind : (n : ℕ) (xs : List ℕ) → Bytes xs → Bytes (drop n xs)
+unfolding Bytes byte
+bytes-behind n xs known i h = rw (getD-drop n xs i 0) (byte-below-256 xs known (n + i))
 
 -- ---- eight bytes
 
 -- Bytes below 256 make a number below 256 to the power of how many they are.
-pub below-a-power : (xs : List ℕ) → All-bytes xs → low-byte-first xs < 256 ^ length xs
-unfolding low-byte-first
+pub below-a-power : (xs : List ℕ) → Bytes xs → low-byte-first xs < 256 ^ length xs
+unfolding low-byte-first Bytes byte
 below-a-power [] known = omega arith
-below-a-power (x ∷ xs) known = omega (arith, known 0 .fits, below-a-power xs (λ i. known (suc i)), pow-suc 256 (length xs))
+below-a-power (x ∷ xs) known =
+    omega (arith, known 0 (omega arith), below-a-power xs (λ i h. known (suc i) (omega arith)), pow-suc 256 (length xs))
 
 -- The bytes from i on are read.
 pub record Read-from (bytes : List ℕ) (n i : ℕ) : Type 0 where
@@ -72,20 +82,22 @@ module _ (bytes : List ℕ) (long : length bytes ≡ 8) where
           let there = drop-cons bytes (i - 1) 0 (omega (arith, r .upto)) ∙ ap (λ k. getD bytes (i - 1) 0 ∷ drop k bytes) next in
           record { upto = omega (arith, r .upto); says = rw (there, r .says) refl }
 
-      module _ (known : All-bytes bytes) where
+      module _ (known : Bytes bytes) where
         few-yet : n < 256 ^ 7
         few-yet =
             let most = pow-le-pow-right {n = 256} (omega arith) {i = length (drop i bytes)} {j = 7} (omega (arith, length-drop i bytes, long)) in
             omega (arith, r .says, below-a-power (drop i bytes) (bytes-behind i bytes known), most)
 
         pub byte-fits : Fits w64 (getD bytes (i - 1) 0)
-        byte-fits = record { fits = omega (arith, known (i - 1) .fits) }
+        unfolding byte
+        byte-fits = record { fits = omega (arith, byte-below-256 bytes known (i - 1)) }
 
         pub shifted-fits : Fits w64 (256 * n)
         shifted-fits = record { fits = omega (arith, few-yet) }
 
         pub number-fits : Fits w64 (getD bytes (i - 1) 0 + 256 * n)
-        number-fits = record { fits = omega (arith, few-yet, known (i - 1) .fits) }
+        unfolding byte
+        number-fits = record { fits = omega (arith, few-yet, byte-below-256 bytes known (i - 1)) }
 
     pub all-read : i ≤ 0 → n ≡ low-byte-first bytes
     all-read h =

@@ -8,7 +8,7 @@ use lib.ListN.{length, length-append, take, drop, length-drop}
 use Rattle.scope.specs.Words.{listed}
 use Rattle.scope.specs.Refusals.{Name, number, Refusal, refusal, Verdict, pass, refuse}
 use Rattle.scope.specs.Ram.{INC, Program, Configuration}
-use Rattle.scope.specs.Book.{header-bytes, entry-bytes, byte, two-byte, routines, first-line, count, line-number}
+use Rattle.scope.specs.Book.{header-bytes, entry-bytes, byte, Bytes, two-byte, routines, first-line, count, line-number}
 use Rattle.scope.specs.Steps.{register-count, top, Registers, value, Values-within, Outcome, FINISHED, FULL}
 use Rattle.scope.specs.Running.{flat-run}
 use Rattle.scope.specs.Transitions.{Our-program, Register-within, Registers-within, Reason, finished, out-of-steps, full}
@@ -23,7 +23,7 @@ use Rattle.scope.proofs.FlatBook.{flat-program-fits}
 use Rattle.scope.proofs.RunExactly.{run-exactly, Ours, run-stays-ours}
 use Rattle.counter.specs.Printed.{longest-answer, number-and, two-numbers, word-and-two}
 use Rattle.counter.proofs.Decimal.{decimal-within}
-use Rattle.counter.proofs.LastBytes.{All-bytes, bytes-behind, below-a-power}
+use Rattle.counter.proofs.LastBytes.{byte-below-256, bytes-behind, below-a-power}
 use Rattle.counter.proofs.Lines.{refusal-says, FINISHED-says, OUT-OF-STEPS-says, FULL-says, R-says}
 
 -- ---- how long lines are
@@ -101,15 +101,16 @@ run-within {P} ours short budget rs few o =
 
 -- ---- what bytes say is small
 
-bytes-in-front : (n : ℕ) (xs : List ℕ) → All-bytes xs → All-bytes (take n xs)
-bytes-in-front zero xs known i = record { fits = omega arith }
-bytes-in-front (suc n) [] known i = record { fits = omega arith }
-bytes-in-front (suc n) (x ∷ xs) known zero = known 0
-bytes-in-front (suc n) (x ∷ xs) known (suc i) = bytes-in-front n xs (λ k. known (suc k)) i
+bytes-in-front : (n : ℕ) (xs : List ℕ) → Bytes xs → Bytes (take n xs)
+unfolding Bytes byte
+bytes-in-front zero xs known i h = absurd (omega arith)
+bytes-in-front (suc n) [] known i h = absurd (omega arith)
+bytes-in-front (suc n) (x ∷ xs) known zero h = known 0 (omega arith)
+bytes-in-front (suc n) (x ∷ xs) known (suc i) h = bytes-in-front n xs (λ k g. known (suc k) (omega arith)) i (omega arith)
 
-two-byte-within : (xs : List ℕ) → All-bytes xs → (i : ℕ) → two-byte xs i ≤ top
-unfolding two-byte byte
-two-byte-within xs known i = omega (arith, known i .fits, known (i + 1) .fits)
+two-byte-within : (xs : List ℕ) → Bytes xs → (i : ℕ) → two-byte xs i ≤ top
+unfolding two-byte
+two-byte-within xs known i = omega (arith, byte-below-256 xs known i, byte-below-256 xs known (i + 1))
 
 listed-within : (f : ℕ → ℕ) → ((k : ℕ) → f k ≤ top) → (i n : ℕ) → Values-within (listed f i n)
 unfolding Values-within value listed
@@ -132,7 +133,7 @@ refusal-within x s =
     rw (refusal-says x)
     (omega (arith, two-within (ascii "REFUSED ") (number (x .name)) (x .place) 10 2 6 (decimal-within 1 _ (s .number-short)) (decimal-within 5 _ (s .place-short))))
 
-module _ (b : List ℕ) (known : All-bytes b) where
+module _ (b : List ℕ) (known : Bytes b) where
   line-short : (r j : ℕ) → Comes-to b r j → line-number b r j < 10 ^ 6
   unfolding line-number first-line count
   line-short r j c = omega (arith, c .in-the-routine, two-byte-within b known (header-bytes + entry-bytes * r), two-byte-within b known (header-bytes + entry-bytes * r + 2))
@@ -151,8 +152,8 @@ module _ (b : List ℕ) (known : All-bytes b) where
   given-short (gives-TARGET r j p w) = record { number-short = omega arith; place-short = line-short r j (p .0 .0) }
   given-short (gives-CALLEE r j p w) = record { number-short = omega arith; place-short = line-short r j (p .0 .0 .0) }
 
-module _ (input : List ℕ) (known : All-bytes input) where
-  book-bytes : All-bytes (book-read input)
+module _ (input : List ℕ) (known : Bytes input) where
+  book-bytes : Bytes (book-read input)
   unfolding book-read
   book-bytes = bytes-in-front (length input - trailer-length) input known
 
@@ -167,7 +168,7 @@ module _ (input : List ℕ) (known : All-bytes input) where
 
   -- ---- a run
 
-  trailer-bytes : All-bytes (trailer-read input)
+  trailer-bytes : Bytes (trailer-read input)
   unfolding trailer-read
   trailer-bytes = bytes-behind (length input - trailer-length) input known
 

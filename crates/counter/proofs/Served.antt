@@ -10,7 +10,7 @@ use lib.ListN.{length, length-append, take, drop}
 use lib.Seq.{length-take-le}
 use Rattle.scope.specs.Refusals as paper
 use Rattle.scope.specs.Refusals.{SHORT, LENGTH, refusal, call-of}
-use Rattle.scope.specs.Book.{book-of}
+use Rattle.scope.specs.Book.{Bytes, book-of}
 use Rattle.scope.specs.Steps.{register-count, Registers}
 use Rattle.scope.specs.Flattening.{flat-program, flat-book, flat-book-bytes, at-the-front-of, flatten-call}
 use Rattle.scope.specs.Running.{flat-run, ran, run-call}
@@ -35,7 +35,6 @@ use Rattle.unit.specs.declared.Ran.{Ran}
 use Rattle.unit.specs.Told.{ran-told}
 use Rattle.io.specs.Counts.{Counts}
 use Rattle.counter.specs.Printed.{counter-answers, longest-answer, Room, printed, print-answer, print-call, print-run-of}
-use Rattle.counter.proofs.LastBytes.{All-bytes}
 use Rattle.counter.proofs.Longest.{no-answer-is-longer}
 
 -- how many bytes a part in front has
@@ -123,7 +122,7 @@ module _ (input : List ℕ) (x : Refusal) where
 -- ---- the answer
 
 module _ (input out : List ℕ) where
-  pub room-for-the-answer : All-bytes input → length out ≡ longest-answer → Room 0 (shop-prints input) out
+  pub room-for-the-answer : Bytes input → length out ≡ longest-answer → Room 0 (shop-prints input) out
   room-for-the-answer known long = record { enough = omega (arith, no-answer-is-longer input known, long) }
 
   -- It stands at the front, and so many bytes are there.

@@ -3,10 +3,11 @@
 use borrow.Author.Needs.{needs}
 use Rattle.counter.proofs.answer.Statement.{statement}
 use Rattle.counter.proofs.answer.Tie as tie
+use Rattle.counter.proofs.LastBytes.{slice-has-bytes}
 use Rattle.counter.proofs.Served.{room-for-the-answer, answer-is}
 
 print-answer-requires : tie.Need-print-answer-requires
-print-answer-requires c κs = search room-for-the-answer
+print-answer-requires c κs = search (room-for-the-answer, slice-has-bytes)
 
 returns : tie.Need-returns
 returns c = answer-is _ _ (search needs)

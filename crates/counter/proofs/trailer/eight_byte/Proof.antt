@@ -3,7 +3,7 @@
 use borrow.Author.Needs.{needs}
 use Rattle.counter.proofs.trailer.eight_byte.Statement.{statement}
 use Rattle.counter.proofs.trailer.eight_byte.Tie as tie
-use Rattle.counter.proofs.LastBytes.{Read-from, none-read, one-more-read, byte-fits, shifted-fits, number-fits, all-read}
+use Rattle.counter.proofs.LastBytes.{slice-has-bytes, Read-from, none-read, one-more-read, byte-fits, shifted-fits, number-fits, all-read}
 
 abbrev Inv-loop : tie.InvT-loop
 Inv-loop bytes n₀ i₀ n i = Read-from bytes n i
@@ -21,13 +21,13 @@ shared-slice-read-n : tie.Need-shared-slice-read-n Inv-loop μ-loop
 shared-slice-read-n c = search needs
 
 cast-n : tie.Need-cast-n Inv-loop μ-loop
-cast-n c = search byte-fits
+cast-n c = search (byte-fits, slice-has-bytes)
 
 mul-n : tie.Need-mul-n Inv-loop μ-loop
-mul-n c = search shifted-fits
+mul-n c = search (shifted-fits, slice-has-bytes)
 
 add-n : tie.Need-add-n Inv-loop μ-loop
-add-n c = search number-fits
+add-n c = search (number-fits, slice-has-bytes)
 
 loop-less : tie.Need-loop-less Inv-loop μ-loop
 loop-less c = search needs
