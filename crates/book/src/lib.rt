@@ -1,4 +1,6 @@
 // A book's bytes: checking it, and reading one line of it. The book is the caller's slice, and no copy of it is made.
+#![tactic(auto)]
+
 pub mod flat; // flat.rt: a flat book's lines, written and read
 pub mod header; // header.rt: the twelve bytes at the front, tests 1 to 5
 mod judging; // judging.rt: the lines' tests, 7 to 10

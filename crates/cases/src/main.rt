@@ -1,4 +1,6 @@
 // What the counter answers to each sample of document 01, under the sample's name. A file of data/ is a whole standard input.
+#![tactic(auto)]
+
 use counter::{LONGEST_ANSWER, READ_AT_MOST, answer};
 use libc::STDOUT_FILENO;
 

@@ -1,4 +1,6 @@
 // At the counter: from the bytes of standard input to the bytes that the shop's program prints.
+#![tactic(auto)]
+
 mod printing; // printing.rt: lines and what they are made of
 mod trailer; // trailer.rt: the routine, the registers and the budget behind the book
 

@@ -1,4 +1,6 @@
 // Flattening: a routine of a book, with all that it uses, becomes one flat program.
+#![tactic(auto)]
+
 mod copying; // copying.rt: what stands at each flat line
 mod depth; // depth.rt: test 11
 pub mod lengths; // lengths.rt: how long each routine is, and where its lines start

@@ -1,4 +1,6 @@
 // What the page in C calls, with byte slices and numbers. docs/C-INTERFACE.md says how each answer is laid out.
+#![tactic(auto)]
+
 pub mod answers; // answers.rt: the answers, field by field
 
 ghost use Rattle.std.specs.Prelude.{◌≡◌, []};

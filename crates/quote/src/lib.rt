@@ -1,4 +1,6 @@
 // The quote: how many steps a run of a steady routine can take at the most.
+#![tactic(auto)]
+
 mod looking; // looking.rt: one look at a routine's lines: its length, its registers, its quote
 mod naming; // naming.rt: which registers are named in or under a routine
 mod steady; // steady.rt: which routines are steady

@@ -32,6 +32,8 @@ names_by_words : (j : ℕ) (l : Line) → Names j l → names j l ≡ true
 unfolding names
 names_by_words j (INC r) INC_names = (is_tells r r).when_true.1 refl
 names_by_words j (DEC r t) DEC_names = (is_tells r r).when_true.1 refl
+names_by_words j (GO_TO t) n = elim n [ ]
+names_by_words j (CALL c) n = elim n [ ]
 names_by_words j (REPEAT r c) REPEAT_names = (is_tells r r).when_true.1 refl
 
 raises_in_words : (j : ℕ) (l : Line) → raises j l ≡ true → Raises j l
@@ -45,6 +47,10 @@ raises_in_words j (REPEAT r c) e = absurd (false≢true e)
 raises_by_words : (j : ℕ) (l : Line) → Raises j l → raises j l ≡ true
 unfolding raises
 raises_by_words j (INC r) INC_raises = (is_tells r r).when_true.1 refl
+raises_by_words j (DEC r t) n = elim n [ ]
+raises_by_words j (GO_TO t) n = elim n [ ]
+raises_by_words j (CALL c) n = elim n [ ]
+raises_by_words j (REPEAT r c) n = elim n [ ]
 
 -- ---- found in or under a routine: by one of its lines, or under a routine that a line uses
 

@@ -234,6 +234,9 @@ taken_lines_fit b t k j e =
     (taken_line_fits (fields_in b k j) k (count b k) ((taken_book b t).lines_right k j s.in_the_book s.in_the_routine))
 
 used_is_below : {k n c : ℕ} {l : Line} → LineFits k n l → LineUses l c → c < k
+used_is_below (INC_fits _) u = elim u [ ]
+used_is_below (DEC_fits _ _) u = elim u [ ]
+used_is_below (GO_TO_fits _) u = elim u [ ]
 used_is_below (CALL_fits h) by_CALL = h
 used_is_below (REPEAT_fits r h) by_REPEAT = h
 

@@ -1,4 +1,6 @@
 // The shop's program: reads standard input and prints what the counter answers.
+#![tactic(auto)]
+
 use counter::{LONGEST_ANSWER, READ_AT_MOST, answer};
 use libc::{STDERR_FILENO, STDIN_FILENO, STDOUT_FILENO};
 

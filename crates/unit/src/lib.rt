@@ -1,4 +1,6 @@
 // The unit: a flat book is run with a budget, or one step of it is made on the bench.
+#![tactic(auto)]
+
 pub mod machine; // machine.rt: one step, and the run with its three reasons to stop
 pub mod registers; // registers.rt: 32 registers as 64 bytes
 
