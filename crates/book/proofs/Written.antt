@@ -2,14 +2,14 @@
 -- Writing at the end of what was written is writing both at once (`written_on`). Assumes nothing.
 use mir.Syntax.{w16}
 use mir.Val.{Fits}
-use Prim.Native.Nat.{ℕ, ◌+◌, ◌*◌, ◌≤◌}
+use Prim.Native.Nat.{ℕ, ◌+◌, ◌*◌, ◌/◌, ◌%◌, ◌≤◌}
 use native.Mathlib.Omega.{arith}
 use native.Mathlib.Numerals.{add-one, add-two, add-three}
 use mathlib.Core.Path.{◌≡◌, refl, sym, ◌∙◌, ap}
 use mathlib.Core.List.{List, [], ◌∷◌, ◌++◌, append_assoc, append-nil}
 use lib.ListN.{length, take, drop, get_or, set, length-append, take-append-drop, drop_of_length-le}
 use lib.Seq.{length-take-le, take_all, take-suc, take_at, drop-append-add, drop-cons, drop-drop, sets-eq}
-use Rattle.scope.specs.Book.{fields_of, two_bytes, two_bytes_each, the_format, header_bytes, line_table_due, length_due}
+use Rattle.scope.specs.Book.{LineFields, fields_of, two_bytes, two_bytes_each, the_format, header_bytes, line_table_due, length_due}
 use Rattle.scope.specs.Ram as ram
 use Rattle.scope.specs.Ram.{Program, TargetWithin}
 use Rattle.scope.specs.Flattening.{most_flat_lines, bytes_of_fields, as_line, bytes_of_program, flat_header, flat_book, flat_book_bytes, at_the_front_of}
@@ -19,7 +19,8 @@ use Rattle.book.specs.declared.lines.Reg.{Reg}
 use Rattle.book.specs.declared.flat.FlatLine.{FlatLine}
 use Rattle.book.specs.declared.flat.Instruction.{Instruction}
 use Rattle.book.specs.declared.flat.Instruction.TheVariants as instruction
-use Rattle.book.specs.Told.{instruction_told}
+use Rattle.book.specs.declared.lines.Fields.{Fields}
+use Rattle.book.specs.Told.{instruction_told, fields_told}
 use Rattle.book.specs.Written.{with_bytes, with_lines}
 
 -- four stores, one behind the other
@@ -131,3 +132,10 @@ book_written o out out' n xs size room header rest =
     let from_0 : 0 + length (flat_book xs) ≡ length (flat_book xs) = omega arith in
     rest ∙ rw (header, whole, size) (written_on o (flat_header (length xs)) (bytes_of_program xs) 0 16 refl (omega arith)
     ∙ ap (λ k. flat_book xs ++ drop k o) from_0)
+
+-- the four bytes of a line's fields, put where flat line i stands
+pub fields_put : (out out' : List ℕ) (i at l h : ℕ) (f : Fields) (x : LineFields) → fields_told f ≡ x → l ≡ f.operand % 256 → h ≡ f.operand / 256 % 256
+    → at ≡ flat_book_bytes i → out' ≡ with_bytes out at (f.kind ∷ f.register ∷ l ∷ h ∷ [])
+    → out' ≡ with_bytes out (flat_book_bytes i) (bytes_of_fields x)
+unfolding fields_told bytes_of_fields two_bytes
+fields_put out out' i at l h f x told low high here put = put ∙ rw (low, high, here, sym told) refl

@@ -16,11 +16,11 @@ use super::numbers::{high, low};
 pub const FLAT_HEADER_BYTES: usize = HEADER_BYTES + ENTRY_BYTES;
 
 // A flat line number, kept apart from a routine's. It is wide, since the machine indexes by it at every step.
-#[derive(Drop)]
+#[derive(Clone, Copy)]
 pub struct FlatLine(pub usize);
 
 // A target is a flat line.
-#[derive(Drop)]
+#[derive(Clone, Copy)]
 pub enum Instruction {
     Inc(Reg),
     Dec(Reg, FlatLine),

@@ -20,14 +20,14 @@ pub const MOST_ROUTINES: u16 = 32;
 pub const MOST_LINES: u16 = 4096;
 
 // How many routines and lines a book has.
-#[derive(Drop)]
+#[derive(Clone, Copy)]
 pub struct Counts {
     pub routines: u16,
     pub lines: u16,
 }
 
 // The six numbers of the header. `entries` and `body` are the offsets of the routine table and of the line table.
-#[derive(Drop)]
+#[derive(Clone, Copy)]
 pub(crate) struct Header {
     pub(crate) format: u16,
     pub(crate) routines: u16,

@@ -18,13 +18,13 @@ use header::Counts;
 use lines::{Line, RoutineLine};
 use refusals::{Name, Refusal, Verdict};
 
-#[derive(Drop)]
+#[derive(Clone, Copy)]
 pub enum Checked {
     Taken(Counts),
     Refused(Refusal),
 }
 
-#[derive(Drop)]
+#[derive(Clone, Copy)]
 pub enum Read {
     Found(Line),
     Refused(Refusal),

@@ -9,17 +9,17 @@ use super::numbers::two_byte;
 use super::table;
 
 // A register number and a routine's line number, kept apart.
-#[derive(Drop)]
+#[derive(Clone, Copy)]
 pub struct Reg(pub u8);
 
-#[derive(Drop)]
+#[derive(Clone, Copy)]
 pub struct RoutineLine(pub u16);
 
 // What a register counts to.
 pub const TOP: u16 = 65535;
 
 // A target counts lines of its routine; CALL and REPEAT name a routine.
-#[derive(Drop)]
+#[derive(Clone, Copy)]
 pub enum Line {
     Inc(Reg),
     Dec(Reg, RoutineLine),
@@ -40,7 +40,7 @@ pub(crate) const CALL: u8 = 4;
 pub(crate) const REPEAT: u8 = 5;
 
 // The four bytes of a line, as they stand.
-#[derive(Drop)]
+#[derive(Clone, Copy)]
 pub(crate) struct Fields {
     pub(crate) kind: u8,
     pub(crate) register: u8,

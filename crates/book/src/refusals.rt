@@ -4,7 +4,7 @@ ghost use Rattle.scope.specs.Refusals.{number, refusal};
 ghost use Rattle.book.specs.Told.{name_told, refusal_told};
 
 // The table's names, in its order ..
-#[derive(Drop)]
+#[derive(Clone, Copy)]
 pub enum Name {
     Short,
     Format,
@@ -55,7 +55,7 @@ pub fn number(name: Name) -> u16
 }
 
 // A refusal carries its place: the routine for 6, the line counted over the whole book for 7 to 10, else 0.
-#[derive(Drop)]
+#[derive(Clone, Copy)]
 pub struct Refusal {
     pub name: Name,
     pub place: u16,
@@ -81,7 +81,7 @@ impl Refusal {
 }
 
 // What a row of tests comes to: nothing is wrong, or the refusal that is given.
-#[derive(Drop)]
+#[derive(Clone, Copy)]
 pub enum Verdict {
     Pass,
     Refuse(Refusal),

@@ -18,7 +18,7 @@ use book::lines::{Line, Reg, RoutineLine, line_at};
 use book::table::count;
 
 // A line, or the end, of a copy of a routine that begins at a flat line.
-#[derive(Drop)]
+#[derive(Clone, Copy)]
 struct Place {
     routine: u16,
     base: FlatLine,
@@ -26,14 +26,14 @@ struct Place {
 }
 
 // What stands at a flat line, and the place at which the next flat line starts.
-#[derive(Drop)]
+#[derive(Clone, Copy)]
 struct Pasted {
     instruction: Instruction,
     behind: Place,
 }
 
 // What is found where a flat line lies in a line of a copy: what stands there; or it lies in the copy of the routine that the line uses.
-#[derive(Drop)]
+#[derive(Clone, Copy)]
 enum Inside {
     Stands(Pasted),
     Deeper(Place),

@@ -20,7 +20,7 @@ use book::{Checked, check};
 use lengths::{MOST_FLAT_LINES, TABLE};
 
 // The flat length, or the refusal.
-#[derive(Drop)]
+#[derive(Clone, Copy)]
 pub enum Flattened {
     Flat(usize),
     Refused(Refusal),

@@ -14,7 +14,7 @@ use unit::machine::Outcome;
 
 // The refusal's number is 0 where the call is accepted. Where it is refused, the fields of its values are 0.
 #[repr(C)]
-#[derive(Drop)]
+#[derive(Clone, Copy)]
 pub struct FlattenAnswer {
     pub refusal: u16,
     pub place: u16,
@@ -22,7 +22,7 @@ pub struct FlattenAnswer {
 }
 
 #[repr(C)]
-#[derive(Drop)]
+#[derive(Clone, Copy)]
 pub struct RunAnswer {
     pub refusal: u16,
     pub place: u16,
@@ -33,7 +33,7 @@ pub struct RunAnswer {
 }
 
 #[repr(C)]
-#[derive(Drop)]
+#[derive(Clone, Copy)]
 pub struct QuoteAnswer {
     pub refusal: u16,
     pub place: u16,

@@ -21,7 +21,7 @@ use looking::look;
 use steady::is_steady;
 
 // The quote, or the refusal.
-#[derive(Drop)]
+#[derive(Clone, Copy)]
 pub enum Quoted {
     Steps(u64),
     Refused(Refusal),

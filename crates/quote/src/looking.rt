@@ -11,7 +11,7 @@ use book::table::count;
 use flatten::lengths::next_start;
 
 // What a look tells. The length stops at 4,097, as in flattening; the number is the quote where it is not over.
-#[derive(Drop)]
+#[derive(Clone, Copy)]
 pub(crate) struct Looked {
     pub(crate) length: u32,
     pub(crate) mask: u32,

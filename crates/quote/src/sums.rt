@@ -18,7 +18,7 @@ const ROUNDS: u64 = TOP as u64;
 const MOST_REPEATED: u64 = (MOST_QUOTE - 1) / ROUNDS - 2;
 
 // The number counts only where it is not over.
-#[derive(Drop)]
+#[derive(Clone, Copy)]
 pub(crate) struct Sum {
     pub(crate) number: u64,
     pub(crate) over: bool,

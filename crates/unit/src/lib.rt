@@ -16,21 +16,21 @@ use book::{Checked, check};
 use machine::{Answer, REGISTERS, run_on};
 
 // What a run answers, or the refusal.
-#[derive(Drop)]
+#[derive(Clone, Copy)]
 pub enum Ran {
     Done(Answer),
     Refused(Refusal),
 }
 
 // The unit's state, line and registers.
-#[derive(Drop)]
+#[derive(Clone, Copy)]
 pub struct State {
     pub line: FlatLine,
     pub regs: [u16; REGISTERS],
 }
 
 // What a bench step answers, and the new state.
-#[derive(Drop)]
+#[derive(Clone, Copy)]
 pub struct Stepped {
     pub ran: Ran,
     pub state: State,

@@ -16,7 +16,7 @@ use book::lines::{Reg, TOP};
 pub const REGISTERS: usize = 32;
 
 // The outcome carries the full register's number when it is FULL.
-#[derive(Drop)]
+#[derive(Clone, Copy)]
 pub enum Outcome {
     Finished,
     OutOfSteps,
@@ -24,7 +24,7 @@ pub enum Outcome {
 }
 
 // The outcome, the steps done and the line reached.
-#[derive(Drop)]
+#[derive(Clone, Copy)]
 pub struct Answer {
     pub outcome: Outcome,
     pub steps: u64,
@@ -32,7 +32,7 @@ pub struct Answer {
 }
 
 // What the machine does next before an instruction: its step goes to a line, or it stands before INC of a register at 65,535.
-#[derive(Drop)]
+#[derive(Clone, Copy)]
 enum Next {
     GoesTo(FlatLine),
     Full(Reg),
