@@ -1,0 +1,26 @@
+-- `machine::run_on` ends as the run of the book's program does, and leaves the registers so.
+-- At every turn the rest of the run ends as the whole does (`Keeps`); the budget less the steps falls. Assumes nothing.
+use Prim.Native.Nat.{◌-◌}
+use Rattle.unit.proofs.Runs.{Keeps, nothing_done, line_there, line_below_the_most, register_there, run_goes_on, ends}
+use Rattle.unit.proofs.machine.run_on.Goals as goal
+
+pub loop-line-init : goal.loop-line-init
+loop-line-init c = search nothing_done
+
+pub returns-then-line-n : goal.returns-then-line-n
+returns-then-line-n c = search ends
+
+pub returns-then-steps-budget : goal.returns-then-steps-budget
+returns-then-steps-budget c = search ends
+
+pub instruction_at-requires : goal.instruction_at-requires
+instruction_at-requires c = search line_there
+
+pub does-next-requires : goal.does-next-requires
+does-next-requires c = search (register_there, line_below_the_most)
+
+pub returns-in-Full : goal.returns-in-Full
+returns-in-Full c = search ends
+
+pub loop-line-preserved : goal.loop-line-preserved
+loop-line-preserved c = search run_goes_on
