@@ -1,0 +1,22 @@
+-- `copying::paste_at` is what stands at a flat line, and the place behind it.
+-- At every turn the flat line lies in a line of a copy that stands in the program (`Looking`); the routine falls. Assumes nothing.
+use borrow.Author.Rules.{rules}
+use Rattle.scope.specs.Book.{book_of}
+use Rattle.scope.specs.Flattening.{flat_program}
+use Rattle.flatten.proofs.Pasting.{Looking, looks_first, pasted_there, in_the_inner, looks_deeper, falls}
+use Rattle.flatten.proofs.copying.paste_at.Goals as goal
+
+pub loop-x-init : goal.loop-x-init
+loop-x-init c = search looks_first
+
+pub returns-in-Stands : goal.returns-in-Stands
+returns-in-Stands c = search pasted_there
+
+pub open-at-requires-clause-in_the_copy : goal.open-at-requires-clause-in_the_copy
+open-at-requires-clause-in_the_copy c = search in_the_inner
+
+pub loop-x-smaller : goal.loop-x-smaller
+loop-x-smaller c = search falls
+
+pub loop-x-preserved : goal.loop-x-preserved
+loop-x-preserved c = search looks_deeper

@@ -1,0 +1,12 @@
+-- `depth::too_deep` tells whether more than 32 routines are open inside one another from a routine on.
+-- The depths of the routines below k are in the row (`DepthsTo`); those left fall. Assumes nothing.
+use Prim.Native.Nat.{◌+◌, ◌-◌}
+use Rattle.flatten.proofs.Rows.{none_known_yet, up_to_the_asked, one_more_known}
+use Rattle.flatten.proofs.Deepest.{DepthsTo, too_deep_tells}
+use Rattle.flatten.proofs.depth.too_deep.Given as goal
+
+abbrev pub invariant-loop-k : goal.invariant-loop-k
+invariant-loop-k l = DepthsTo l.b l.routine l.k l.depths
+
+abbrev pub decreases-loop-k : goal.decreases-loop-k
+decreases-loop-k l = l.routine + 1 - l.k
