@@ -1,0 +1,17 @@
+-- `steady::line_steady` and `steady::routine_steady` tell whether a line and a routine are steady.
+-- The routine number falls, then in the loop the lines left (`SteadyTo`); a routine below the mark is looked up. Assumes nothing.
+use Prim.Native.Nat.{◌+◌, ◌*◌, ◌-◌}
+use Rattle.quote.proofs.Steadiness.{SteadyTo}
+use Rattle.quote.proofs.steady.+line_steady_routine_steady.Given as goal
+
+abbrev pub decreases-line_steady : goal.decreases-line_steady
+decreases-line_steady l = 2 * l.k
+
+abbrev pub decreases-routine_steady : goal.decreases-routine_steady
+decreases-routine_steady l = 2 * l.k + 1
+
+abbrev pub invariant-routine_steady-loop-j : goal.invariant-routine_steady-loop-j
+invariant-routine_steady-loop-j l = SteadyTo l.b l.k l.n l.j
+
+abbrev pub decreases-routine_steady-loop-j : goal.decreases-routine_steady-loop-j
+decreases-routine_steady-loop-j l = l.n - l.j
