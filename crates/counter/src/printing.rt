@@ -18,7 +18,9 @@ fn put_text(out: &mut [u8], at: usize, text: &[u8]) -> usize
     requires { Room at text.now out.old }
     ensures { record { next = result; left = out.new } ≡ printed at text.now out.old }
 {
-    at + bytes::copy(text, &mut out[at..])
+    let next = at + text.len();
+    out[at..next].copy_from_slice(text);
+    next
 }
 
 // A number, and the byte that stands behind it.
