@@ -1,40 +1,35 @@
 // What the counter answers to each sample of document 01, under the sample's name. A file of data/ is a whole standard input.
 #![tactic(auto)]
 
-use counter::{LONGEST_ANSWER, READ_AT_MOST, answer};
-use libc::STDOUT_FILENO;
+use counter::{LONGEST_ANSWER, answer};
+use std::io::Write;
+use std::{fs, io};
 
-fn case(name: &[u8]) {
-    let file = os::open_read(name);
-    if file < 0 {
-        os::fail(name);
-        return;
-    }
-    let mut input = [0u8; READ_AT_MOST];
-    let n = io::read_full(file, &mut input);
-    libc::close(file);
+fn case(rt: &HostRuntime, name: &str) -> io::Result<()> {
+    let input = fs::read(rt, name)?;
     let mut out = [0u8; LONGEST_ANSWER];
-    let k = answer(&input[..n], &mut out);
-    io::write_all(STDOUT_FILENO, name);
-    io::write_all(STDOUT_FILENO, b"\n");
-    io::write_all(STDOUT_FILENO, &out[..k]);
+    let k = answer(input.as_slice(), &mut out);
+    rt.stdout().write_all(name.as_bytes())?;
+    rt.stdout().write_all(b"\n")?;
+    rt.stdout().write_all(&out[..k])
 }
 
-fn main() {
-    case(b"A.stdin");
-    case(b"B.stdin");
-    case(b"B-budget-4.stdin");
-    case(b"C.stdin");
-    case(b"C-budget-2.stdin");
-    case(b"D.stdin");
-    case(b"E.stdin");
-    case(b"F.stdin");
-    case(b"G.stdin");
-    case(b"G-also.stdin");
-    case(b"H-12.stdin");
-    case(b"H-13.stdin");
-    case(b"H-4097.stdin");
-    case(b"I-2.stdin");
-    case(b"I-3.stdin");
-    case(b"I-4.stdin");
+fn main(rt: HostRuntime) -> io::Result<()> {
+    case(&rt, "A.stdin")?;
+    case(&rt, "B.stdin")?;
+    case(&rt, "B-budget-4.stdin")?;
+    case(&rt, "C.stdin")?;
+    case(&rt, "C-budget-2.stdin")?;
+    case(&rt, "D.stdin")?;
+    case(&rt, "E.stdin")?;
+    case(&rt, "F.stdin")?;
+    case(&rt, "G.stdin")?;
+    case(&rt, "G-also.stdin")?;
+    case(&rt, "H-12.stdin")?;
+    case(&rt, "H-13.stdin")?;
+    case(&rt, "H-4097.stdin")?;
+    case(&rt, "I-2.stdin")?;
+    case(&rt, "I-3.stdin")?;
+    case(&rt, "I-4.stdin")?;
+    Ok(())
 }

@@ -15,8 +15,7 @@ use unit::registers::{REGISTERS_BYTES, put_registers, registers_of};
 use unit::{Ran, run};
 
 // Flattens one routine of a book. Accepted, the flat book stands at the front of the output.
-#[unsafe(no_mangle)]
-pub extern "C" fn zn_flatten(book: &[u8], routine: usize, out: &mut [u8]) -> FlattenAnswer
+pub fn zn_flatten(book: &[u8], routine: usize, out: &mut [u8]) -> FlattenAnswer
     ensures { record { fields = flatten_told result; left = out.new } ≡ page_flatten book.now routine out.old }
 {
     flatten_fields(flatten(book, routine, out))
@@ -31,8 +30,7 @@ fn run_without(flat: &[u8], start: usize, budget: u64) -> RunAnswer
 }
 
 // Runs a flat book from a start line. The registers are 64 bytes, two for each, low byte first.
-#[unsafe(no_mangle)]
-pub extern "C" fn zn_run(flat: &[u8], start: usize, regs: &mut [u8], budget: u64) -> RunAnswer
+pub fn zn_run(flat: &[u8], start: usize, regs: &mut [u8], budget: u64) -> RunAnswer
     ensures { record { fields = run_told result; left = regs.new } ≡ page_run flat.now start regs.old budget }
 {
     if regs.len() != REGISTERS_BYTES {
@@ -51,8 +49,7 @@ pub extern "C" fn zn_run(flat: &[u8], start: usize, regs: &mut [u8], budget: u64
 }
 
 // Quotes one routine of a book.
-#[unsafe(no_mangle)]
-pub extern "C" fn zn_quote(book: &[u8], routine: usize) -> QuoteAnswer
+pub fn zn_quote(book: &[u8], routine: usize) -> QuoteAnswer
     ensures { quote_told result ≡ page_quote book.now routine }
 {
     quote_fields(quote(book, routine))

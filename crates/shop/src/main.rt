@@ -1,16 +1,35 @@
 // The shop's program: reads standard input and prints what the counter answers.
 #![tactic(auto)]
 
-use counter::{LONGEST_ANSWER, READ_AT_MOST, answer};
-use libc::{STDERR_FILENO, STDIN_FILENO, STDOUT_FILENO};
+ghost use Rattle.std.specs.Prelude.{◌≤◌, length, IfOk};
 
-fn main() {
+use counter::{LONGEST_ANSWER, READ_AT_MOST, answer};
+use std::io;
+use std::io::{Read, Write};
+
+// Reads until the input ends or the buffer is full, and answers how many bytes stand at its front.
+fn read_full<R: Read>(from: &mut R, buf: &mut [u8]) -> io::Result<usize>
+    ensures { IfOk result (λ n. n ≤ length buf.new) }
+{
+    let mut done = 0;
+    while done < buf.len() {
+        let n = from.read(&mut buf[done..])?;
+        if n == 0 {
+            break;
+        }
+        done += n;
+    }
+    Ok(done)
+}
+
+fn main(rt: HostRuntime) -> io::Result<()> {
     let mut input = [0u8; READ_AT_MOST];
-    let n = io::read_full(STDIN_FILENO, &mut input);
+    let n = read_full(&mut rt.stdin(), &mut input)?;
     let mut out = [0u8; LONGEST_ANSWER];
     let k = answer(&input[..n], &mut out);
-    let is_written = io::write_all(STDOUT_FILENO, &out[..k]);
-    if !is_written {
-        io::write_all(STDERR_FILENO, b"shop: the answer could not be written\n");
+    if rt.stdout().write_all(&out[..k]).is_err() {
+        rt.stderr()
+            .write_all(b"shop: the answer could not be written\n")?;
     }
+    Ok(())
 }

@@ -1,0 +1,10 @@
+-- `read_full` reads no more than the buffer holds.
+-- So many bytes are read so far; those that the buffer still takes fall. Assumes nothing.
+use Rattle.std.proofs.Common.{◌-◌, ◌≤◌, length}
+use Rattle.shop.proofs.read_full.Given as goal
+
+abbrev pub invariant-loop-done : goal.invariant-loop-done
+invariant-loop-done g l = l.done ≤ length l.buf
+
+abbrev pub decreases-loop-done : goal.decreases-loop-done
+decreases-loop-done g l = length l.buf - l.done
