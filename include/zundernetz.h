@@ -1,5 +1,5 @@
 /* Zundernetz for C: flattening a routine of a book, running a flat book, and the quote of a routine's longest run. Link with libpage.a
-   (`rt staticlib page`), on x86-64 Linux. It is read as C99 and later and as C++98 and later.
+   (`tools/build page`), on x86-64 Linux. It is read as C99 and later and as C++98 and later.
 
    The way from a book to an outcome: zn_flatten writes the flat book of a routine, zn_quote gives a budget that is enough where the routine
    is steady, and zn_run runs the flat book with that budget, or with one that can be waited for. In each answer look at refusal first.

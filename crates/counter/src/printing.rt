@@ -14,6 +14,9 @@ const SPACE: u8 = 32;
 
 const LINE_END: u8 = 10;
 
+// A register that holds this has no line.
+const NOT_PRINTED: u16 = 0;
+
 fn put_text(out: &mut [u8], at: usize, text: &[u8]) -> usize
     requires { Room at text.now out.old }
     ensures { record { next = result; left = out.new } ≡ printed at text.now out.old }
@@ -83,7 +86,7 @@ fn put_register(out: &mut [u8], at: usize, j: usize, v: u16) -> usize
     requires { Room at (register_line j v) out.old }
     ensures { record { next = result; left = out.new } ≡ printed at (register_line j v) out.old }
 {
-    if v == 0 {
+    if v == NOT_PRINTED {
         return at;
     }
     put_word_and_two(out, at, b"R", j as u64, v as u64, LINE_END)

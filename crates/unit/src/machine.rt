@@ -105,7 +105,7 @@ pub(crate) fn run_on(
     let n = counts.lines as usize;
     let mut line = start;
     let mut steps: u64 = 0;
-    loop {
+    'run: loop {
         if line.0 == n {
             return ended(Outcome::Finished, steps, line);
         }

@@ -5,8 +5,8 @@ use Rattle.counter.proofs.Texts.{room_there, printed_there}
 use Rattle.counter.proofs.Lines.{R_says, zero_not_printed}
 use Rattle.counter.proofs.printing.put_register.Goals as goal
 
-pub returns-then-v-eq0 : goal.returns-then-v-eq0
-returns-then-v-eq0 c = search zero_not_printed
+pub returns-then-v-eq-NOT_PRINTED : goal.returns-then-v-eq-NOT_PRINTED
+returns-then-v-eq-NOT_PRINTED c = search zero_not_printed
 
 pub put_word_and_two-requires : goal.put_word_and_two-requires
 unfolding ascii

@@ -4,8 +4,8 @@ use Prim.Native.Nat.{◌-◌}
 use Rattle.unit.proofs.Runs.{Keeps, nothing_done, line_there, line_below_the_most, register_there, run_goes_on, ends}
 use Rattle.unit.proofs.machine.run_on.Goals as goal
 
-pub loop-line-init : goal.loop-line-init
-loop-line-init c = search nothing_done
+pub run-init : goal.run-init
+run-init c = search nothing_done
 
 pub returns-then-line-n : goal.returns-then-line-n
 returns-then-line-n c = search ends
@@ -22,5 +22,5 @@ does-next-requires c = search (register_there, line_below_the_most)
 pub returns-in-Full : goal.returns-in-Full
 returns-in-Full c = search ends
 
-pub loop-line-preserved : goal.loop-line-preserved
-loop-line-preserved c = search run_goes_on
+pub run-preserved : goal.run-preserved
+run-preserved c = search run_goes_on

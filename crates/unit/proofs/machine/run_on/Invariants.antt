@@ -4,8 +4,8 @@ use Prim.Native.Nat.{◌-◌}
 use Rattle.unit.proofs.Runs.{Keeps, nothing_done, line_there, line_below_the_most, register_there, run_goes_on, ends}
 use Rattle.unit.proofs.machine.run_on.Given as goal
 
-abbrev pub invariant-loop-line : goal.invariant-loop-line
-invariant-loop-line l = Keeps l.flat l.n l.budget l.initial.line.0 l.initial.regs l.line.0 l.steps l.regs
+abbrev pub invariant-run : goal.invariant-run
+invariant-run l = Keeps l.flat l.n l.budget l.initial.line.0 l.initial.regs l.line.0 l.steps l.regs
 
-abbrev pub decreases-loop-line : goal.decreases-loop-line
-decreases-loop-line l = l.budget - l.steps
+abbrev pub decreases-run : goal.decreases-run
+decreases-run l = l.budget - l.steps
