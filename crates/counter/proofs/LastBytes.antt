@@ -64,18 +64,18 @@ below_a_power (x ∷ xs) known =
     omega (arith, known 0 (omega arith), below_a_power xs (λ i h. known (suc i) (omega arith)), pow-suc 256 (length xs))
 
 -- The bytes from i on are read.
-pub record Read_from (bytes : List ℕ) (n i : ℕ) : Type 0 where
+pub record ReadFrom (bytes : List ℕ) (n i : ℕ) : Type 0 where
   pub upto : i ≤ length bytes
   pub says : n ≡ low_byte_first (drop i bytes)
 
 module _ (bytes : List ℕ) (long : length bytes ≡ 8) where
-  pub none_read : Read_from bytes 0 8
+  pub none_read : ReadFrom bytes 0 8
   unfolding low_byte_first
   none_read = record { upto = omega arith; says = rw (drop_of_length-le bytes {i = 8} (omega arith)) refl }
 
-  module _ (n i : ℕ) (r : Read_from bytes n i) where
+  module _ (n i : ℕ) (r : ReadFrom bytes n i) where
     module _ (h : 0 < i) where
-      pub one_more_read : Read_from bytes (get_or bytes (i - 1) 0 + 256 * n) (i - 1)
+      pub one_more_read : ReadFrom bytes (get_or bytes (i - 1) 0 + 256 * n) (i - 1)
       unfolding low_byte_first
       one_more_read =
           let next : suc (i - 1) ≡ i = omega arith in

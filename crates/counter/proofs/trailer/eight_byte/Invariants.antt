@@ -1,10 +1,10 @@
 -- `trailer::eight_byte` is the number that the bytes say, low byte first.
--- The bytes from i on are read (`Read_from`); i falls. Assumes nothing.
-use Rattle.counter.proofs.LastBytes.{slice_has_bytes, Read_from, none_read, one_more_read, byte_fits, shifted_fits, number_fits, all_read}
+-- The bytes from i on are read (`ReadFrom`); i falls. Assumes nothing.
+use Rattle.counter.proofs.LastBytes.{slice_has_bytes, ReadFrom, none_read, one_more_read, byte_fits, shifted_fits, number_fits, all_read}
 use Rattle.counter.proofs.trailer.eight_byte.Given as goal
 
 abbrev pub invariant-loop-i : goal.invariant-loop-i
-invariant-loop-i l = Read_from l.bytes l.n l.i
+invariant-loop-i l = ReadFrom l.bytes l.n l.i
 
 abbrev pub decreases-loop-i : goal.decreases-loop-i
 decreases-loop-i l = l.i
