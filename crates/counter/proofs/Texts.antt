@@ -17,15 +17,17 @@ use Rattle.counter.specs.Printed.{Room, Printed, printed}
 pub the_rest : (xs : List ℕ) (from : ℕ) → take (length xs - from) (drop from xs) ≡ drop from xs
 the_rest xs from = take_all (length xs - from) (drop from xs) (omega (arith, length-drop from xs))
 
--- copied over as many bytes of the output from a place on
-pub text_printed : (out text part : List ℕ) (at : ℕ) → Room at text out → part ≡ text
-    → record { next = at + length text; left = put_mid at (at + length text - at) out part } ≡ printed at text out
+-- copied over the rest of the output from a place on
+pub text_printed : (out text part : List ℕ) (at r : ℕ) → Room at text out → r ≡ length text
+    → part ≡ take (length text) text ++ drop (length text) (mid_of at (length out - at) out)
+    → record { next = at + r; left = put_mid at (length out - at) out part } ≡ printed at text out
 unfolding printed with_bytes
-text_printed out text part at room copied =
-    let size : at + length text - at ≡ length text = omega arith in
-    let left : put_mid at (at + length text - at) out part ≡ take at out ++ text ++ drop (at + length text) out =
-    rw (size, copied, drop-drop (length text) at out) (sym (append_assoc (take at out) text _)) in
-    λ i. record { next = at + length text; left = left i }
+text_printed out text part at r room size copied =
+    let none : drop (length out - at) (drop at out) ≡ [] = drop_of_length-le (drop at out) {i = length out - at} (omega (arith, length-drop at out)) in
+    let left : put_mid at (length out - at) out part ≡ take at out ++ text ++ drop (at + length text) out =
+    rw (none, append-nil part, copied, the_rest out at, take_all (length text) text (omega arith), drop-drop (length text) at out)
+    (sym (append_assoc (take at out) text _)) in
+    λ i. record { next = at + size i; left = left i }
 
 pub nothing_printed : (at : ℕ) (out : List ℕ) → record { next = at; left = out } ≡ printed at [] out
 unfolding printed

@@ -1,6 +1,6 @@
 // How lines are printed: fields are parted by one space, every line ends in byte 10. Each function prints a text at a place, asks for room for
 // just that text, and answers where the next one goes.
-ghost use Rattle.std.specs.Prelude.{◌≡◌};
+ghost use Rattle.std.specs.Prelude.{◌≡◌, ◌≤◌, ◌++◌, length, take, drop};
 ghost use Rattle.scope.specs.Shop.{outcome_line, register_line, register_lines, print_refusal};
 ghost use Rattle.book.specs.Told.{refusal_told};
 ghost use Rattle.unit.specs.Told.{outcome_told, ran_told};
@@ -17,13 +17,22 @@ const LINE_END: u8 = 10;
 // A register that holds this has no line.
 const NOT_PRINTED: u16 = 0;
 
+// A text over the front of what is lent, and how long it is.
+fn copy(text: &[u8], to: &mut [u8]) -> usize
+    requires { length text.now ≤ length to.old }
+    ensures size { result ≡ length text.now }
+    ensures copied { to.new ≡ take (length text.now) text.now ++ drop (length text.now) to.old }
+{
+    let n = text.len();
+    to[..n].copy_from_slice(text);
+    n
+}
+
 fn put_text(out: &mut [u8], at: usize, text: &[u8]) -> usize
     requires { Room at text.now out.old }
     ensures { record { next = result; left = out.new } ≡ printed at text.now out.old }
 {
-    let next = at + text.len();
-    out[at..next].copy_from_slice(text);
-    next
+    at + copy(text, &mut out[at..])
 }
 
 // A number, and the byte that stands behind it.
