@@ -10,7 +10,6 @@ use Rattle.scope.proofs.TakenBook.{line_read_back}
 use Rattle.book.specs.declared.refusals.Name.{Name}
 use Rattle.book.specs.declared.refusals.Name.TheVariants as name
 use Rattle.book.specs.declared.refusals.Refusal.{Refusal}
-use Rattle.book.specs.declared.header.Counts.{Counts}
 use Rattle.book.specs.declared.lines.Line.{Line}
 use Rattle.book.specs.declared.lines.Line.TheVariants as line
 use Rattle.book.specs.declared.flat.Instruction.{Instruction}

@@ -9,7 +9,7 @@ use Rattle.scope.specs.Words.{listed}
 use Rattle.scope.specs.Refusals.{Name, number, Refusal, refusal, Verdict, pass, refuse}
 use Rattle.scope.specs.Ram.{INC, Program, Configuration}
 use Rattle.scope.specs.Book.{header_bytes, entry_bytes, byte, Bytes, two_byte, routines, first_line, count, line_number}
-use Rattle.scope.specs.Steps.{register_count, top, Registers, value, ValuesWithin, Outcome, FINISHED, FULL}
+use Rattle.scope.specs.Steps.{register_count, top, Registers, value, ValuesWithin, Outcome}
 use Rattle.scope.specs.Running.{flat_run}
 use Rattle.scope.specs.Transitions.{OurProgram, RegisterWithin, RegistersWithin, Reason, finished, out_of_steps, full}
 use Rattle.scope.specs.Page.{registers_length, registers_of}

@@ -5,7 +5,7 @@ use native.Mathlib.Omega.{arith}
 use mathlib.Core.Path.{◌≡◌, refl, sym, ◌∙◌, ap}
 use mathlib.Core.List.{List}
 use lib.ListN.{length}
-use Rattle.scope.specs.Book.{most_routines, most_lines, count, routine, book_of}
+use Rattle.scope.specs.Book.{most_routines, most_lines, count, book_of}
 use Rattle.scope.specs.Flattening.{flat_length, start}
 use Rattle.scope.proofs.TakenBook.{taken_book, taken_callees_below, routine_ends}
 use Rattle.scope.proofs.FlatLines.{first_start, end_start, start_within}

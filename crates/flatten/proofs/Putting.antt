@@ -14,7 +14,6 @@ use Rattle.scope.specs.Flattening.{most_flat_lines, flat_length, flat_program, b
 use Rattle.scope.proofs.FlatLines.{length_flat_program}
 use Rattle.scope.proofs.FlatBook.{flat_program_fits}
 use Rattle.book.specs.declared.header.Counts.{Counts}
-use Rattle.book.specs.declared.flat.Instruction.{Instruction}
 use Rattle.book.specs.Told.{instruction_told}
 use Rattle.book.specs.Asked.{TakenWith}
 use Rattle.book.specs.Written.{with_bytes, with_lines}

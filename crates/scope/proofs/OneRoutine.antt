@@ -9,7 +9,7 @@ use lib.ListN.{length, take}
 use Rattle.scope.specs.Words.{listed}
 use Rattle.scope.specs.Ram as ram
 use Rattle.scope.specs.Ram.{Instruction, Program, Has, has, TargetWithin, TargetsWithin}
-use Rattle.scope.specs.Book.{INC_kind, DEC_kind, GO_TO_kind, routines, lines, first_line, LineFields, INC, DEC, GO_TO, fields_of, line_of, fields_at, line_number, fields_in, Taken, Book, routine, routine_of, book_of, said_below, from_the_lowest_up}
+use Rattle.scope.specs.Book.{INC_kind, DEC_kind, GO_TO_kind, routines, lines, first_line, LineFields, fields_of, line_of, fields_at, line_number, fields_in, Taken, Book, routine, routine_of, book_of, said_below, from_the_lowest_up}
 use Rattle.scope.specs.Flattening.{line_length, sum_of, flat_length, start, copy_line, copy_lines, copy_by, copy, flat_program, as_line}
 use Rattle.scope.specs.Running.{instruction_of, program_of}
 use Rattle.scope.specs.Given.{HasCallee}

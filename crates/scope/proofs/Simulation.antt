@@ -8,7 +8,7 @@ use lib.ListN.{drop}
 use lib.Seq.{drop-length}
 use Rattle.scope.specs.Ram as ram
 use Rattle.scope.specs.Ram.{Program}
-use Rattle.scope.specs.Book.{Line, INC, DEC, GO_TO, Book, routine, CalleesBelow}
+use Rattle.scope.specs.Book.{Line, Book, routine, CalleesBelow}
 use Rattle.scope.specs.Steps.{Registers}
 use Rattle.scope.specs.Nested.{OpenedBy, a_CALL, a_REPEAT, Place, due, settle, nested_step, nested_next, nested_run}
 use Rattle.scope.specs.Flattening.{line_length, flat_length, start, copy_line, copy, flat_program}

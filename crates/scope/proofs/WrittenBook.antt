@@ -11,7 +11,7 @@ use lib.Arith.{digits_div, digits_mod}
 use Rattle.scope.specs.Words.{if, listed}
 use Rattle.scope.specs.Ram as ram
 use Rattle.scope.specs.Ram.{Instruction, Program, has, TargetWithin, TargetsWithin}
-use Rattle.scope.specs.Book.{the_format, most_lines, header_bytes, byte, Bytes, two_byte, two_bytes, two_bytes_each, format, routines, lines, routine_table, line_table, stated_length, line_table_due, length_due, first_line, count, first_line_due, INC, DEC, GO_TO, fields_of, line_offset, fields_at, line_number, fields_in, Taken}
+use Rattle.scope.specs.Book.{the_format, most_lines, header_bytes, byte, Bytes, two_byte, two_bytes, two_bytes_each, format, routines, lines, routine_table, line_table, stated_length, line_table_due, length_due, first_line, count, first_line_due, fields_of, line_offset, fields_at, line_number, fields_in, Taken}
 use Rattle.scope.specs.Flattening.{bytes_of_fields, as_line, bytes_of_program, flat_header, flat_book, flat_book_bytes}
 use Rattle.scope.specs.Given.{Short, WrongFormat, WrongCounts, WrongOffsets, WrongLength, WrongEntry, WrongEnd, WrongKind, ZeroStands, WrongRegister, HasTarget, WrongTarget, HasCallee, WrongCallee, GoodLine, GoodIn, GoodBook}
 use Rattle.scope.specs.FlatBook.{FitsABook, Says}

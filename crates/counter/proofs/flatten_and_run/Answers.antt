@@ -1,6 +1,5 @@
 -- `flatten_and_run` prints what the program prints of an input of 74 to 16,598 bytes.
 -- Refused as flattening is; else the flat book stands in front of the buffer and is run. Assumes nothing.
-use borrow.Author.Rules.{rules}
 use Rattle.counter.proofs.Texts.{room_there, printed_there}
 use Rattle.counter.proofs.Served.{part_in_front, book_in_front, shop_prints_its_refusal, lines_fit, flat_book_fits, flat_book_stands_in_front, shop_prints_the_run_of_it}
 use Rattle.counter.proofs.flatten_and_run.Goals as goal

@@ -1,6 +1,5 @@
 -- `flatten_taken` answers as the definitions' flattening does, for a taken book, and leaves the output so.
 -- Tests 12, 11, 13 and 14 in their order; a routine that passes them is written. Assumes nothing.
-use borrow.Author.Rules.{rules}
 use Rattle.book.specs.Told.{name_told}
 use Rattle.flatten.proofs.Answers.{routine_refused, flat_length_is, routine_fits, line_bytes_fit, bytes_fit, flat_book_has_room, whole_copy_within, no_room, flat_book_there}
 use Rattle.flatten.proofs.flatten_taken.Goals as goal

@@ -1,7 +1,7 @@
 -- `flattens` tells whether a routine of a taken book flattens, and how long it is then.
 -- Tests 12, 11 and 13 in their order. Assumes nothing.
 use Rattle.book.specs.Told.{name_told}
-use Rattle.flatten.proofs.Answers.{no_such_routine, too_deep, length_fits, too_long, it_flattens}
+use Rattle.flatten.proofs.Answers.{no_such_routine, too_deep, too_long, it_flattens}
 use Rattle.flatten.proofs.flattens.Goals as goal
 
 pub returns-then-routines-routine : goal.returns-then-routines-routine

@@ -1,6 +1,5 @@
 -- `judged` answers as the definitions' quote does, for a taken book.
 -- Tests 12, 11, 13, 18 and 19 in their order. Assumes nothing.
-use borrow.Author.Rules.{rules}
 use Rattle.book.specs.Told.{name_told}
 use Rattle.flatten.proofs.Rows.{has_a_place}
 use Rattle.flatten.proofs.Answers.{routine_fits}

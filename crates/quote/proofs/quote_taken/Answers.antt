@@ -1,8 +1,6 @@
 -- `quote_taken` answers as the definitions' quote does, for a taken book.
 -- The routines below k are looked at (`RowsTo`); those left fall. Assumes nothing.
-use borrow.Author.Rules.{rules}
-use Prim.Native.Nat.{◌-◌}
-use Rattle.quote.proofs.Looks.{RowsTo, no_routine_looked_at, one_more_looked_at, all_looked_at}
+use Rattle.quote.proofs.Looks.{no_routine_looked_at, one_more_looked_at, all_looked_at}
 use Rattle.quote.proofs.quote_taken.Goals as goal
 
 pub loop-k-init : goal.loop-k-init

@@ -1,7 +1,7 @@
 -- `quote_taken` answers as the definitions' quote does, for a taken book.
 -- The routines below k are looked at (`RowsTo`); those left fall. Assumes nothing.
 use Prim.Native.Nat.{◌-◌}
-use Rattle.quote.proofs.Looks.{RowsTo, no_routine_looked_at, one_more_looked_at, all_looked_at}
+use Rattle.quote.proofs.Looks.{RowsTo}
 use Rattle.quote.proofs.quote_taken.Given as goal
 
 abbrev pub invariant-loop-k : goal.invariant-loop-k

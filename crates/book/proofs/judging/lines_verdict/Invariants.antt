@@ -2,8 +2,7 @@
 -- The loops keep that all routines below r, and of routine r all lines below j, pass (`PassedTo`); R - r and the count less j fall. Assumes nothing.
 use Prim.Native.Nat.{◌-◌}
 use Rattle.scope.specs.Book.{line_verdict, routine_verdict}
-use Rattle.book.specs.Told.{verdict_told}
-use Rattle.book.proofs.Scanned.{PassedTo, none_yet, place_fits, line_within, line_passed, line_refused, routine_passed, lines_all_right}
+use Rattle.book.proofs.Scanned.{PassedTo}
 use Rattle.book.proofs.judging.lines_verdict.Given as goal
 
 abbrev pub invariant-loop-j : goal.invariant-loop-j

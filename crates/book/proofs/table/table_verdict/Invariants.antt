@@ -1,8 +1,7 @@
 -- `table::table_verdict` is the table's verdict.
 -- The loop keeps that all entries below r pass and where routine r has to start (`Due`); R - r falls. Assumes nothing.
 use Prim.Native.Nat.{◌-◌}
-use Rattle.book.specs.Told.{name_told, verdict_told}
-use Rattle.book.proofs.Scanned.{Due, due_at_first, due_next, entry_refused, end_refused, table_right}
+use Rattle.book.proofs.Scanned.{Due}
 use Rattle.book.proofs.table.table_verdict.Given as goal
 
 abbrev pub invariant-loop-r : goal.invariant-loop-r

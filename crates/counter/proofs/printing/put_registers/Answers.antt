@@ -1,8 +1,6 @@
 -- `printing::put_registers` prints one line for each register that is not 0, in order.
 -- The lines of the registers before j are printed (`Listed`); those left fall. Assumes nothing.
-use Prim.Native.Nat.{◌-◌}
-use lib.ListN.{length}
-use Rattle.counter.proofs.Lines.{Listed, none_listed, room_for_a_register, one_more_listed, listed_as_long, all_listed}
+use Rattle.counter.proofs.Lines.{none_listed, room_for_a_register, one_more_listed, all_listed}
 use Rattle.counter.proofs.printing.put_registers.Goals as goal
 
 pub loop-j-init : goal.loop-j-init

@@ -2,7 +2,7 @@
 -- The lines of the registers before j are printed (`Listed`); those left fall. Assumes nothing.
 use Prim.Native.Nat.{◌-◌}
 use lib.ListN.{length}
-use Rattle.counter.proofs.Lines.{Listed, none_listed, room_for_a_register, one_more_listed, listed_as_long, all_listed}
+use Rattle.counter.proofs.Lines.{Listed}
 use Rattle.counter.proofs.printing.put_registers.Given as goal
 
 abbrev pub invariant-loop-j : goal.invariant-loop-j

@@ -1,6 +1,6 @@
 -- `trailer::eight_byte` is the number that the bytes say, low byte first.
 -- The bytes from i on are read (`ReadFrom`); i falls. Assumes nothing.
-use Rattle.counter.proofs.LastBytes.{slice_has_bytes, ReadFrom, none_read, one_more_read, byte_fits, shifted_fits, number_fits, all_read}
+use Rattle.counter.proofs.LastBytes.{slice_has_bytes, none_read, one_more_read, shifted_fits, number_fits, all_read}
 use Rattle.counter.proofs.trailer.eight_byte.Goals as goal
 
 pub loop-i-init : goal.loop-i-init

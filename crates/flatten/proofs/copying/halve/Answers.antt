@@ -1,8 +1,7 @@
 -- `copying::halve` finds the line of a copy in which a flat line lies.
 -- It lies between the starts of two lines (`Between`), which come together. Assumes nothing.
-use Prim.Native.Nat.{◌-◌}
 use Rattle.flatten.proofs.Rows.{entry_there}
-use Rattle.flatten.proofs.Finding.{Between, whole_copy, middle_there, lower_half, upper_half, line_is_around}
+use Rattle.flatten.proofs.Finding.{whole_copy, middle_there, lower_half, upper_half, line_is_around}
 use Rattle.flatten.proofs.copying.halve.Goals as goal
 
 pub count-high-requires : goal.count-high-requires

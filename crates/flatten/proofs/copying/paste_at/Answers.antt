@@ -1,9 +1,6 @@
 -- `copying::paste_at` is what stands at a flat line, and the place behind it.
 -- At every turn the flat line lies in a line of a copy that stands in the program (`Looking`); the routine falls. Assumes nothing.
-use borrow.Author.Rules.{rules}
-use Rattle.scope.specs.Book.{book_of}
-use Rattle.scope.specs.Flattening.{flat_program}
-use Rattle.flatten.proofs.Pasting.{Looking, looks_first, pasted_there, in_the_inner, looks_deeper, falls}
+use Rattle.flatten.proofs.Pasting.{looks_first, pasted_there, in_the_inner, looks_deeper, falls}
 use Rattle.flatten.proofs.copying.paste_at.Goals as goal
 
 pub loop-x-init : goal.loop-x-init

@@ -2,7 +2,7 @@
 -- At every turn the flat line lies in a line of a copy that stands in the program (`Looking`); the routine falls. Assumes nothing.
 use Rattle.scope.specs.Book.{book_of}
 use Rattle.scope.specs.Flattening.{flat_program}
-use Rattle.flatten.proofs.Pasting.{Looking, looks_first, pasted_there, in_the_inner, looks_deeper, falls}
+use Rattle.flatten.proofs.Pasting.{Looking}
 use Rattle.flatten.proofs.copying.paste_at.Given as goal
 
 abbrev pub invariant-loop-x : goal.invariant-loop-x

@@ -1,6 +1,5 @@
 -- `copying::put_book` writes the flat book of a routine at the front of the output.
 -- The header, and behind it the lines. Assumes nothing.
-use borrow.Author.Rules.{rules}
 use Rattle.flatten.proofs.Putting.{lines_fit, few_lines, header_has_room, lines_have_room, flat_book_written}
 use Rattle.flatten.proofs.copying.put_book.Goals as goal
 

@@ -1,7 +1,7 @@
 -- `copying::put_lines` writes the flat program of a routine, line by line.
 -- The first p lines are written (`WrittenTo`); those left fall. Assumes nothing.
 use Prim.Native.Nat.{◌-◌}
-use Rattle.flatten.proofs.Putting.{WrittenTo, none_written, still_below, target_fits, line_has_room, one_more_written, all_lines_written}
+use Rattle.flatten.proofs.Putting.{WrittenTo}
 use Rattle.flatten.proofs.copying.put_lines.Given as goal
 
 abbrev pub invariant-loop-p : goal.invariant-loop-p

@@ -1,8 +1,7 @@
 -- `depth::routine_depth` is how many routines are open inside one another from a routine on, stopped at the cap.
 -- The first j lines are looked at (`DeepestTo`); the count less j falls. Assumes nothing.
-use Prim.Native.Nat.{◌-◌}
 use Rattle.flatten.proofs.Rows.{line_is_there}
-use Rattle.flatten.proofs.Deepest.{DeepestTo, none_looked_at, one_more_looked_at, routine_depth_is}
+use Rattle.flatten.proofs.Deepest.{none_looked_at, one_more_looked_at, routine_depth_is}
 use Rattle.flatten.proofs.depth.routine_depth.Goals as goal
 
 pub loop-j-init : goal.loop-j-init

@@ -1,8 +1,7 @@
 -- `depth::too_deep` tells whether more than 32 routines are open inside one another from a routine on.
 -- The depths of the routines below k are in the row (`DepthsTo`); those left fall. Assumes nothing.
 use Prim.Native.Nat.{◌+◌, ◌-◌}
-use Rattle.flatten.proofs.Rows.{none_known_yet, up_to_the_asked, one_more_known}
-use Rattle.flatten.proofs.Deepest.{DepthsTo, too_deep_tells}
+use Rattle.flatten.proofs.Deepest.{DepthsTo}
 use Rattle.flatten.proofs.depth.too_deep.Given as goal
 
 abbrev pub invariant-loop-k : goal.invariant-loop-k

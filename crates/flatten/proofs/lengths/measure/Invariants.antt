@@ -1,7 +1,7 @@
 -- `lengths::measure` puts where the lines of a routine start in the table, and is its length.
 -- The first j lines are measured (`Summing`); the count less j falls. Assumes nothing.
 use Prim.Native.Nat.{◌-◌}
-use Rattle.flatten.proofs.Rows.{line_is_there, as_long_as_lent, Summing, nothing_summed, one_more_summed, routine_measured}
+use Rattle.flatten.proofs.Rows.{Summing}
 use Rattle.flatten.proofs.lengths.measure.Given as goal
 
 abbrev pub invariant-loop-j : goal.invariant-loop-j

@@ -1,8 +1,6 @@
 -- `lengths::measured` has the length of every routine, and puts where each line starts in the table.
 -- The routines below k are measured (`Measuring`); those left fall. Assumes nothing.
-use borrow.Author.Rules.{rules}
-use Prim.Native.Nat.{◌-◌}
-use Rattle.flatten.proofs.Rows.{Measuring, nothing_measured, one_more_measured, all_measured}
+use Rattle.flatten.proofs.Rows.{nothing_measured, one_more_measured, all_measured}
 use Rattle.flatten.proofs.lengths.measured.Goals as goal
 
 pub loop-k-init : goal.loop-k-init

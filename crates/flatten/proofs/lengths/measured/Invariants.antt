@@ -1,7 +1,7 @@
 -- `lengths::measured` has the length of every routine, and puts where each line starts in the table.
 -- The routines below k are measured (`Measuring`); those left fall. Assumes nothing.
 use Prim.Native.Nat.{◌-◌}
-use Rattle.flatten.proofs.Rows.{Measuring, nothing_measured, one_more_measured, all_measured}
+use Rattle.flatten.proofs.Rows.{Measuring}
 use Rattle.flatten.proofs.lengths.measured.Given as goal
 
 abbrev pub invariant-loop-k : goal.invariant-loop-k

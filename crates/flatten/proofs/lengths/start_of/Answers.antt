@@ -1,6 +1,6 @@
 -- `lengths::start_of` reads where a line starts, stopped at the cap.
 -- Its slot lies within the table. Assumes nothing.
-use Rattle.flatten.proofs.Rows.{entry_there, start_there, slot_fits, slot_bytes_fit, start_read, start_fits}
+use Rattle.flatten.proofs.Rows.{entry_there, start_there, slot_fits, slot_bytes_fit, start_read}
 use Rattle.flatten.proofs.lengths.start_of.Goals as goal
 
 pub part-requires : goal.part-requires

@@ -1,9 +1,7 @@
 -- `looking::look` tells the length, the mask and the quote of a routine.
 -- The first j lines are looked at (`Looking`); the count less j falls. Assumes nothing.
-use borrow.Author.Rules.{rules}
-use Prim.Native.Nat.{◌-◌}
 use Rattle.flatten.proofs.Rows.{line_is_there}
-use Rattle.quote.proofs.Looks.{Looking, nothing_looked_at, one_more_line, routine_looked_at}
+use Rattle.quote.proofs.Looks.{nothing_looked_at, one_more_line, routine_looked_at}
 use Rattle.quote.proofs.looking.look.Goals as goal
 
 pub loop-j-init : goal.loop-j-init

@@ -1,8 +1,7 @@
 -- `looking::look` tells the length, the mask and the quote of a routine.
 -- The first j lines are looked at (`Looking`); the count less j falls. Assumes nothing.
 use Prim.Native.Nat.{◌-◌}
-use Rattle.flatten.proofs.Rows.{line_is_there}
-use Rattle.quote.proofs.Looks.{Looking, nothing_looked_at, one_more_line, routine_looked_at}
+use Rattle.quote.proofs.Looks.{Looking}
 use Rattle.quote.proofs.looking.look.Given as goal
 
 abbrev pub invariant-loop-j : goal.invariant-loop-j

@@ -4,8 +4,8 @@ use borrow.Author.Rules.{rules}
 use Rattle.scope.specs.Quote as paper
 use Rattle.book.specs.Told.{line_told}
 use Rattle.book.proofs.Fits.{REPEAT_register}
-use Rattle.flatten.proofs.Rows.{line_is_there, has_a_place}
-use Rattle.quote.proofs.Steadiness.{said_of_the_line, CALL_there, CALL_falls, REPEAT_there, REPEAT_falls, REPEAT_of_a_named, REPEAT_steady, answer_in_the_row, line_falls, all_lines_left, no_line_left, one_more_steady, an_unsteady_line}
+use Rattle.flatten.proofs.Rows.{has_a_place}
+use Rattle.quote.proofs.Steadiness.{said_of_the_line, CALL_there, CALL_falls, REPEAT_there, REPEAT_falls, REPEAT_of_a_named, REPEAT_steady, all_lines_left, no_line_left, one_more_steady, an_unsteady_line}
 use Rattle.quote.proofs.steady.+line_steady_routine_steady.Goals as goal
 
 pub line_steady-routine_steady-requires : goal.line_steady-routine_steady-requires

@@ -1,9 +1,7 @@
 -- `steady::is_steady` tells whether a routine is steady.
 -- The answers for the routines below k are in the row (`TestedTo`); those left fall. Assumes nothing.
-use borrow.Author.Rules.{rules}
-use Prim.Native.Nat.{◌+◌, ◌-◌}
 use Rattle.flatten.proofs.Rows.{none_known_yet, up_to_the_asked, one_more_known}
-use Rattle.quote.proofs.Steadiness.{TestedTo, answer_is}
+use Rattle.quote.proofs.Steadiness.{answer_is}
 use Rattle.quote.proofs.steady.is_steady.Goals as goal
 
 pub loop-k-init : goal.loop-k-init

@@ -1,8 +1,7 @@
 -- `steady::is_steady` tells whether a routine is steady.
 -- The answers for the routines below k are in the row (`TestedTo`); those left fall. Assumes nothing.
 use Prim.Native.Nat.{◌+◌, ◌-◌}
-use Rattle.flatten.proofs.Rows.{none_known_yet, up_to_the_asked, one_more_known}
-use Rattle.quote.proofs.Steadiness.{TestedTo, answer_is}
+use Rattle.quote.proofs.Steadiness.{TestedTo}
 use Rattle.quote.proofs.steady.is_steady.Given as goal
 
 abbrev pub invariant-loop-k : goal.invariant-loop-k

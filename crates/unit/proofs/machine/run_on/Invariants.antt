@@ -1,7 +1,7 @@
 -- `machine::run_on` ends as the run of the book's program does, and leaves the registers so.
 -- At every turn the rest of the run ends as the whole does (`Keeps`); the budget less the steps falls. Assumes nothing.
 use Prim.Native.Nat.{◌-◌}
-use Rattle.unit.proofs.Runs.{Keeps, nothing_done, line_there, line_below_the_most, register_there, run_goes_on, ends}
+use Rattle.unit.proofs.Runs.{Keeps}
 use Rattle.unit.proofs.machine.run_on.Given as goal
 
 abbrev pub invariant-run : goal.invariant-run

@@ -1,8 +1,6 @@
 -- `registers::put_registers` leaves the bytes of the registers.
 -- The first j are written (`WrittenTo`); 32 less j falls. Assumes nothing.
-use Prim.Native.Nat.{◌-◌}
-use Rattle.scope.specs.Steps.{register_count}
-use Rattle.unit.proofs.AsBytes.{WrittenTo, none_written, one_more_written, all_are_written}
+use Rattle.unit.proofs.AsBytes.{none_written, one_more_written, all_are_written}
 use Rattle.unit.proofs.registers.put_registers.Goals as goal
 
 pub loop-j-init : goal.loop-j-init

@@ -2,7 +2,7 @@
 -- The first j are written (`WrittenTo`); 32 less j falls. Assumes nothing.
 use Prim.Native.Nat.{◌-◌}
 use Rattle.scope.specs.Steps.{register_count}
-use Rattle.unit.proofs.AsBytes.{WrittenTo, none_written, one_more_written, all_are_written}
+use Rattle.unit.proofs.AsBytes.{WrittenTo}
 use Rattle.unit.proofs.registers.put_registers.Given as goal
 
 abbrev pub invariant-loop-j : goal.invariant-loop-j

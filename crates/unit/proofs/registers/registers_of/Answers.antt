@@ -1,8 +1,6 @@
 -- `registers::registers_of` has the registers that the bytes say.
 -- The first j are read (`ReadTo`); 32 less j falls. Assumes nothing.
-use Prim.Native.Nat.{◌-◌}
-use Rattle.scope.specs.Steps.{register_count}
-use Rattle.unit.proofs.AsBytes.{ReadTo, none_read, one_more_read, all_read}
+use Rattle.unit.proofs.AsBytes.{none_read, one_more_read, all_read}
 use Rattle.unit.proofs.registers.registers_of.Goals as goal
 
 pub loop-j-init : goal.loop-j-init

@@ -2,7 +2,7 @@
 -- The first j are read (`ReadTo`); 32 less j falls. Assumes nothing.
 use Prim.Native.Nat.{◌-◌}
 use Rattle.scope.specs.Steps.{register_count}
-use Rattle.unit.proofs.AsBytes.{ReadTo, none_read, one_more_read, all_read}
+use Rattle.unit.proofs.AsBytes.{ReadTo}
 use Rattle.unit.proofs.registers.registers_of.Given as goal
 
 abbrev pub invariant-loop-j : goal.invariant-loop-j
