@@ -16,10 +16,10 @@ use Rattle.book.proofs.refusals.number.Reads as number
 use Rattle.book.proofs.numbers.two_byte.Reads as two_byte
 use Rattle.book.proofs.numbers.low.Reads as low
 use Rattle.book.proofs.numbers.high.Reads as high
-use Rattle.book.proofs.header.counts_of.Reads as CountsOf
+use Rattle.book.proofs.header.counts_of.Reads as counts_of
 use Rattle.book.proofs.table.first_line.Reads as first_line
 use Rattle.book.proofs.table.count.Reads as count
-use Rattle.book.proofs.lines.line_at.Reads as line_at_lem
+use Rattle.book.proofs.lines.line_at.Reads as line_at
 use Rattle.book.proofs.flat.put_header.Reads as put_header
 use Rattle.book.proofs.flat.put_line.Reads as put_line
 use Rattle.book.proofs.flat.instruction_at.Reads as instruction_at
@@ -49,7 +49,7 @@ low_once κs a s s' p q = p ∙ sym q
 pub high_once : {r r' : ℕ} (κs : _) (a : _) (s s' : _) → high.Learnt κs a r s → high.Learnt κs a r' s' → r ≡ r'
 high_once κs a s s' p q = p ∙ sym q
 
-pub counts_of_once : {r r' : Counts} (κs : _) (a : _) (s s' : _) → CountsOf.Learnt κs a r s → CountsOf.Learnt κs a r' s' → r ≡ r'
+pub counts_of_once : {r r' : Counts} (κs : _) (a : _) (s s' : _) → counts_of.Learnt κs a r s → counts_of.Learnt κs a r' s' → r ≡ r'
 counts_of_once κs a s s' p q =
     λ i. record { routines = (p.routines_are ∙ sym q.routines_are) i; lines = (p.lines_are ∙ sym q.lines_are) i }
 
@@ -59,7 +59,7 @@ first_line_once κs a s s' p q = p ∙ sym q
 pub count_once : {r r' : ℕ} (κs : _) (a : _) (s s' : _) → count.Learnt κs a r s → count.Learnt κs a r' s' → r ≡ r'
 count_once κs a s s' p q = p ∙ sym q
 
-pub line_at_once : {r r' : Line} (κs : _) (a : _) (s s' : _) → line_at_lem.Learnt κs a r s → line_at_lem.Learnt κs a r' s' → r ≡ r'
+pub line_at_once : {r r' : Line} (κs : _) (a : _) (s s' : _) → line_at.Learnt κs a r s → line_at.Learnt κs a r' s' → r ≡ r'
 line_at_once κs a s s' p q = lines_apart _ _ (p ∙ sym q)
 
 pub instruction_at_once : {r r' : Instruction} (κs : _) (a : _) (s s' : _)

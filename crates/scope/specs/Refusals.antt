@@ -46,8 +46,8 @@ pub data Verdict : Type 0 where
   refuse : Refusal → Verdict
 
 -- Order: a test that finds its fault gives its refusal, otherwise the next is made. So the tests of a call stand under one another:
---     refuse-if (.. is wrong) NAME place otherwise
---     refuse-if (.. is wrong) NAME place otherwise
+--     refuse_if (.. is wrong) NAME place otherwise
+--     refuse_if (.. is wrong) NAME place otherwise
 --     pass
 abbrev pub refuse_if : Bool → Name → ℕ → Verdict → Verdict
 refuse_if wrong n p rest = if wrong (refuse (refusal n p)) rest
