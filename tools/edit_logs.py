@@ -38,7 +38,7 @@ def edited(crate, edit):
             with open(os.path.join(crate, path), encoding="utf-8") as it:
                 was[path] = now[path] = it.read()
         if now[path].count(old) != 1:
-            sys.exit(f"{edit}: its old text stands {now[path].count(old)} times in {path}: {old}")
+            raise ValueError(f"its old text stands {now[path].count(old)} times in {path}: {old}")
         now[path] = now[path].replace(old, new)
     return was, now
 
@@ -49,20 +49,25 @@ def write(crate, texts):
             it.write(text)
 
 
-def log_of(room, edit, log):
+def log_name(edit):
+    _, crate, _, name = edit.split("/")
+    return f"target/must-fail/{crate}/{name.removesuffix('.edit')}.log"
+
+
+def log_of(room, edit):
     """Checks the edit's crate in the room with the edit in it, writes what was said, and puts the files back."""
     crate = os.path.join(room, os.path.dirname(os.path.dirname(edit)))
     was, now = edited(crate, edit)
     write(crate, now)
     said = subprocess.run(["rt", "check"], cwd=crate, stdin=subprocess.DEVNULL, stdout=subprocess.PIPE, stderr=subprocess.STDOUT, errors="replace")
     write(crate, was)
-    os.makedirs(os.path.dirname(log), exist_ok=True)
-    with open(log, "w", encoding="utf-8") as it:
+    os.makedirs(os.path.dirname(log_name(edit)), exist_ok=True)
+    with open(log_name(edit), "w", encoding="utf-8") as it:
         it.write(said.stdout)
 
 
-def work(edits, rooms):
-    """Takes edits while there are any, in a room of its own."""
+def work(edits, rooms, wrong):
+    """Takes edits while there are any, in a room of its own, and adds to what went wrong."""
     room = tempfile.mkdtemp(prefix="edits-", dir=rooms)
     for path in ["crates.txt", "HANDLES"]:
         if os.path.exists(path):
@@ -73,23 +78,32 @@ def work(edits, rooms):
             edit = edits.pop(0)
         except IndexError:
             return
-        _, crate, _, name = edit.split("/")
-        log_of(room, edit, f"target/must-fail/{crate}/{name.removesuffix('.edit')}.log")
+        try:
+            log_of(room, edit)
+        except (OSError, ValueError) as it:
+            wrong.append(f"{edit}: {it}")
 
 
 def main():
-    wanted = sys.argv[1:] or sorted(os.listdir("crates"))
-    edits = [e for c in wanted for e in sorted(glob.glob(f"crates/{c}/must-fail/*.edit"))]
+    crates = sys.argv[1:] or sorted(os.listdir("crates"))
+    edits = [e for c in crates for e in sorted(glob.glob(f"crates/{c}/must-fail/*.edit"))]
+    for edit in edits:
+        if os.path.exists(log_name(edit)):
+            os.remove(log_name(edit))
+    wrong, wanted = [], list(edits)
     rooms = tempfile.mkdtemp(prefix="zundernetz-")
     try:
-        workers = [threading.Thread(target=work, args=(edits, rooms)) for _ in range(os.cpu_count() or 1)]
+        workers = [threading.Thread(target=work, args=(edits, rooms, wrong)) for _ in range(os.cpu_count() or 1)]
         for it in workers:
             it.start()
         for it in workers:
             it.join()
     finally:
         shutil.rmtree(rooms)
+    wrong += [f"{edit}: there is no log of it" for edit in wanted if not os.path.exists(log_name(edit))]
+    print("\n".join(wrong), end="\n" if wrong else "")
+    return 1 if wrong else 0
 
 
 if __name__ == "__main__":
-    main()
+    sys.exit(main())

@@ -1,4 +1,4 @@
-// What the page in C calls, with byte slices and numbers. docs/C-INTERFACE.md says how each answer is laid out.
+// What the page in C calls, with byte slices and numbers; `page_c` exports it. docs/C-INTERFACE.md says how each answer is laid out.
 #![tactic(auto)]
 
 pub mod answers; // answers.rt: the answers, field by field
