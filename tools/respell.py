@@ -1,7 +1,8 @@
 #!/usr/bin/env python3
 """Brings the names that specs/ and proofs/ declare to the spelling of today's Rattle.
 
-usage: python3 tools/respell.py        once, at the top of the repository, after the kit's own port.py
+usage: python3 tools/respell.py          once, at the top of the repository, after the kit's own port.py
+       python3 tools/respell.py --list   prints each name with its new one, and changes nothing
 
 Types, facts and modules are in upper camel case; every other name is in snake case, and keeps the capitals of the paper's words (DEC_kind).
 Names that are imported from elsewhere keep their spelling, as do strings, and words in comments that do not stand in backticks.
@@ -11,10 +12,6 @@ import os
 import re
 import sys
 
-# What follows here would fall together with another name.
-OTHERWISE = {}
-
-NAME = r"[^\s(){}\[\];,.\"|:`◌]+"
 TOKEN = re.compile(r"[^\s(){}\[\];,.\"|`◌]+")
 
 
@@ -70,8 +67,6 @@ def declared(root):
 
 
 def today(name):
-    if name in OTHERWISE:
-        return OTHERWISE[name]
     parts = name.split("-")
     if re.match(r"[A-Z][a-z]", name):
         return "".join(p[0].upper() + (p[1:].lower() if p.isupper() else p[1:]) for p in parts)

@@ -9,7 +9,7 @@ use Rattle.page.proofs.zn_flatten.Reads as zn_flatten
 use Rattle.page.proofs.zn_run.Reads as zn_run
 use Rattle.page.proofs.zn_quote.Reads as zn_quote
 
-pub flatten_answers_apart : (r r' : FlattenAnswer) → flatten_told r ≡ flatten_told r' → r ≡ r'
+flatten_answers_apart : (r r' : FlattenAnswer) → flatten_told r ≡ flatten_told r' → r ≡ r'
 unfolding flatten_told
 flatten_answers_apart r r' e = λ i. record { refusal = (e i).refusal; place = (e i).place; lines = (e i).lines }
 
@@ -19,7 +19,7 @@ zn_flatten_once κs a r r' s s' p q =
     let same = p ∙ sym q in
     (flatten_answers_apart r r' (ap (λ c. c.fields) same), ap (λ c. c.left) same)
 
-pub run_answers_apart : (r r' : RunAnswer) → run_told r ≡ run_told r' → r ≡ r'
+run_answers_apart : (r r' : RunAnswer) → run_told r ≡ run_told r' → r ≡ r'
 unfolding run_told
 run_answers_apart r r' e =
     λ i. record { refusal = (e i).refusal; place = (e i).place; outcome = (e i).outcome; register = (e i).register; steps = (e i).steps; line = (e i).line }
@@ -30,7 +30,7 @@ zn_run_once κs a r r' s s' p q =
     let same = p ∙ sym q in
     (run_answers_apart r r' (ap (λ c. c.fields) same), ap (λ c. c.left) same)
 
-pub quote_answers_apart : (r r' : QuoteAnswer) → quote_told r ≡ quote_told r' → r ≡ r'
+quote_answers_apart : (r r' : QuoteAnswer) → quote_told r ≡ quote_told r' → r ≡ r'
 unfolding quote_told
 quote_answers_apart r r' e = λ i. record { refusal = (e i).refusal; place = (e i).place; quote = (e i).quote }
 
