@@ -1,5 +1,6 @@
 -- The answers of checking and of reading: one law for each way out, and what a book that passes so far gives to the next test.
 -- A verdict in hand is the definition's, so a refusal is the call's answer and a pass lets the next test decide. Assumes nothing.
+use Rattle.std.specs.Prelude.{Result, Ok, Err}
 use Prim.Native.Nat.{ℕ, ◌<◌, ◌≤◌}
 use mathlib.Core.Path.{◌≡◌, sym, ◌∙◌, ap}
 use mathlib.Core.List.{List}
@@ -12,12 +13,9 @@ use Rattle.scope.proofs.TakenBook.{taken_header, taken_book, fields_read_back}
 use Rattle.book.specs.declared.header.Counts.{Counts}
 use Rattle.book.specs.declared.lines.Line.{Line}
 use Rattle.book.specs.declared.refusals.Refusal.{Refusal}
-use Rattle.book.specs.declared.refusals.Verdict.{Verdict}
-use Rattle.book.specs.declared.refusals.Verdict.TheVariants.{Pass, Refuse}
-use Rattle.book.specs.declared.Checked.{Checked}
-use Rattle.book.specs.declared.Checked.TheVariants as checked
-use Rattle.book.specs.declared.Read.TheVariants as read
-use Rattle.book.specs.Told.{refusal_told, verdict_told, counts_told, check_told, line_told, read_told}
+use Rattle.book.specs.Told.{refusal_told, verdict_told, answer_told, counts_told, check_told, line_told, read_told}
+use Rattle.book.specs.declared.reader.Book.{Book}
+use Rattle.book.specs.Opened.{opened_counts}
 use Rattle.book.specs.Asked.{CountsOf, Sized, Tabled, TakenWith}
 use Rattle.book.proofs.Scanned.{below_R, told_pass, told_refusal}
 
@@ -46,75 +44,86 @@ taken_with b c t k =
 
 -- ---- the book's tests, in order
 
-module _ (b : List ℕ) (front : Verdict) (header_says : verdict_told front ≡ header_verdict b) where
-  pub header_refuses : {x : Refusal} → front ≡ Refuse x → verdict_told (Refuse x) ≡ book_verdict b
+module _ (b : List ℕ) (front : Result (Unit {0}) Refusal) (header_says : verdict_told front ≡ header_verdict b) where
+  pub header_refuses : {x : Refusal} → front ≡ Err x → verdict_told (Err x) ≡ book_verdict b
   unfolding verdict_told book_verdict
   header_refuses e = sym (then_refuses _ (told_refusal header_says e))
 
-  module _ (passes : front ≡ Pass) where
+  module _ (passes : front ≡ Ok tt) where
     pub header_is_there : header_bytes ≤ length b
     header_is_there = (taken_header b (told_pass header_says passes)).has_a_header
 
     pub sized : (c : Counts) → CountsOf b c → Sized b c
     sized c = header_sized b c (told_pass header_says passes)
 
-    module _ (entries : Verdict) (table_says : verdict_told entries ≡ table_verdict b) where
-      pub table_refuses : {x : Refusal} → entries ≡ Refuse x → verdict_told (Refuse x) ≡ book_verdict b
+    module _ (entries : Result (Unit {0}) Refusal) (table_says : verdict_told entries ≡ table_verdict b) where
+      pub table_refuses : {x : Refusal} → entries ≡ Err x → verdict_told (Err x) ≡ book_verdict b
       unfolding verdict_told book_verdict
       table_refuses e =
           sym (then_goes_on _ (told_pass header_says passes) ∙ then_refuses _ (told_refusal table_says e))
 
-      pub tabled : (c : Counts) → entries ≡ Pass → CountsOf b c → Tabled b c
+      pub tabled : (c : Counts) → entries ≡ Ok tt → CountsOf b c → Tabled b c
       tabled c e k = record { sized = sized c k; table_passes = told_pass table_says e }
 
-      pub lines_decide : (v : Verdict) → entries ≡ Pass → verdict_told v ≡ lines_verdict b → verdict_told v ≡ book_verdict b
+      pub lines_decide : (v : Result (Unit {0}) Refusal) → entries ≡ Ok tt → verdict_told v ≡ lines_verdict b → verdict_told v ≡ book_verdict b
       unfolding book_verdict
       lines_decide v e s = s ∙ sym (then_goes_on _ (told_pass header_says passes) ∙ then_goes_on _ (told_pass table_says e))
 
 -- ---- checking
 
-module _ (b : List ℕ) (v : Verdict) (book_says : verdict_told v ≡ book_verdict b) where
-  pub check_refuses : {x : Refusal} → v ≡ Refuse x → check_told (checked.Refused x) ≡ check_answer b
-  unfolding check_told check_answer
+module _ (b : List ℕ) (v : Result (Unit {0}) Refusal) (book_says : verdict_told v ≡ book_verdict b) where
+  pub check_refuses : {x : Refusal} → v ≡ Err x → check_told (Err x) ≡ check_answer b
+  unfolding answer_told check_answer
   check_refuses e = sym ((refused_exactly_when _ _ _).1 (told_refusal book_says e))
 
-  pub book_has_a_header : v ≡ Pass → header_bytes ≤ length b
+  pub book_has_a_header : v ≡ Ok tt → header_bytes ≤ length b
   unfolding book_verdict
   book_has_a_header e = (taken_header b (then_passes (header_verdict b) (told_pass book_says e)).0).has_a_header
 
-  pub check_takes : (c : Counts) → v ≡ Pass → CountsOf b c → check_told (checked.Taken c) ≡ check_answer b
-  unfolding check_told counts_told check_answer
+  pub check_takes : (c : Counts) → v ≡ Ok tt → CountsOf b c → check_told (Ok c) ≡ check_answer b
+  unfolding answer_told counts_told check_answer
   check_takes c e k = rw (k.routines_are, k.lines_are) (sym (accepted_where_passed _ (told_pass book_says e)))
 
 -- What every caller has who has checked a book: refused, the refusal is the book's; taken, the facts of a taken book.
-module _ (b : List ℕ) (r : Checked) (told : check_told r ≡ check_answer b) where
-  pub checked_refused : {x : Refusal} → r ≡ checked.Refused x → book_verdict b ≡ refuse (refusal_told x)
-  unfolding check_told check_answer
-  checked_refused e = (refused_exactly_when _ _ _).0 (sym told ∙ ap check_told e)
+module _ {A : Type 0} (b : List ℕ) (told : A → book.Counts) (r : Result A Refusal) (answers : answer_told told r ≡ check_answer b) where
+  pub checked_refused : {x : Refusal} → r ≡ Err x → book_verdict b ≡ refuse (refusal_told x)
+  unfolding answer_told check_answer
+  checked_refused e = (refused_exactly_when _ _ _).0 (sym answers ∙ ap (answer_told told) e)
 
-  pub checked_taken : {c : Counts} → r ≡ checked.Taken c → TakenWith b c
-  unfolding check_told counts_told check_answer
-  checked_taken {c} e =
-      let p = accepted_only_where_passed (book_verdict b) (sym told ∙ ap check_told e) in
-      let same = sym p.1 in
-      taken_with b c p.0
-      (record {
-        routines_are = ap (λ (x : book.Counts). x.routine_count) same;
-        lines_are = ap (λ (x : book.Counts). x.line_count) same;
-      })
+pub checked_taken : (b : List ℕ) (r : Result Counts Refusal) → check_told r ≡ check_answer b → {c : Counts} → r ≡ Ok c → TakenWith b c
+unfolding answer_told counts_told check_answer
+checked_taken b r answers {c} e =
+    let p = accepted_only_where_passed (book_verdict b) (sym answers ∙ ap check_told e) in
+    let same = sym p.1 in
+    taken_with b c p.0
+    (record {
+      routines_are = ap (λ (x : book.Counts). x.routine_count) same;
+      lines_are = ap (λ (x : book.Counts). x.line_count) same;
+    })
+
+-- ---- opening
+
+module _ (b : List ℕ) (r : Result Counts Refusal) (answers : check_told r ≡ check_answer b) where
+  pub open_refuses : {x : Refusal} → r ≡ Err x → answer_told opened_counts (Err x) ≡ check_answer b
+  unfolding answer_told
+  open_refuses e = ap check_told (sym e) ∙ answers
+
+  pub opened : {c : Counts} (k : Book) → r ≡ Ok c → k.counts ≡ c → answer_told opened_counts (Ok k) ≡ check_answer b
+  unfolding answer_told opened_counts
+  opened k e same = ap (λ c. accepted (counts_told c)) same ∙ ap check_told (sym e) ∙ answers
 
 -- ---- reading
 
 module _ (b : List ℕ) (r j : ℕ) where
-  pub book_refused : (k : Checked) {x : Refusal} → check_told k ≡ check_answer b → k ≡ checked.Refused x
-      → read_told (read.Refused x) ≡ read_answer b r j
-  unfolding read_told read_answer read_verdict
-  book_refused k s e = sym ((refused_exactly_when _ _ _).1 (then_refuses _ (checked_refused b k s e)))
+  pub book_refused : {A : Type 0} (told : A → book.Counts) (k : Result A Refusal) {x : Refusal} → answer_told told k ≡ check_answer b → k ≡ Err x
+      → read_told (Err x) ≡ read_answer b r j
+  unfolding answer_told read_answer read_verdict
+  book_refused told k s e = sym ((refused_exactly_when _ _ _).1 (then_refuses _ (checked_refused b told k s e)))
 
   module _ (c : Counts) (t : TakenWith b c) where
     pub no_such_routine : (x : Refusal) → refusal_told x ≡ refusal NO_ROUTINE 0 → c.routines ≤ r
-        → read_told (read.Refused x) ≡ read_answer b r j
-    unfolding read_told read_answer read_verdict
+        → read_told (Err x) ≡ read_answer b r j
+    unfolding answer_told read_answer read_verdict
     no_such_routine x s h =
         sym ((refused_exactly_when _ _ _).1 (then_goes_on _ t.taken
         ∙ refuses _ _ (not_below_tells r (routines b)) (rw (sym t.tabled.sized.counts.routines_are) h)
@@ -125,8 +134,8 @@ module _ (b : List ℕ) (r j : ℕ) where
       here = below_R r t.tabled.sized h
 
       pub no_such_line : (x : Refusal) (n : ℕ) → refusal_told x ≡ refusal LINE 0 → n ≡ count b r → n ≤ j
-          → read_told (read.Refused x) ≡ read_answer b r j
-      unfolding read_told read_answer read_verdict
+          → read_told (Err x) ≡ read_answer b r j
+      unfolding answer_told read_answer read_verdict
       no_such_line x n s k l =
           sym ((refused_exactly_when _ _ _).1 (then_goes_on _ t.taken
           ∙ goes_on _ _ (not_below_tells r (routines b)) here
@@ -134,8 +143,8 @@ module _ (b : List ℕ) (r j : ℕ) where
           ∙ ap refuse (sym s)))
 
       pub line_found : (l : Line) (n : ℕ) → n ≡ count b r → j < n → line_told l ≡ line_of (fields_in b r j)
-          → read_told (read.Found l) ≡ read_answer b r j
-      unfolding read_told read_answer read_verdict
+          → read_told (Ok l) ≡ read_answer b r j
+      unfolding answer_told read_answer read_verdict
       line_found l n k s e =
           let below : j < count b r = rw (sym k) s in
           ap accepted (ap fields_of e ∙ fields_read_back (fields_in b r j) r (count b r) ((taken_book b t.taken).lines_right r j here below))

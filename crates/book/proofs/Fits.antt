@@ -2,6 +2,7 @@
 -- A taken line fits, field by field, and it is the line of the list that the bytes say; both by the answer's cases. Assumes nothing.
 use Prim.Native.Nat.{ℕ, suc, ◌<◌, ◌≤◌}
 use native.Mathlib.Omega.{arith}
+use mathlib.Core.Logic.{◌⊎◌, inl, inr}
 use mathlib.Core.Path.{◌≡◌, sym, ◌∙◌, ap, subst}
 use mathlib.Core.List.{List, ◌∷◌}
 use lib.ListN.{drop}
@@ -80,6 +81,10 @@ module _ (b : List ℕ) (c : Counts) (l : Line) (r j : ℕ) (t : TakenWith b c) 
   pub REPEAT_below : {g : Reg} {q : ℕ} → l ≡ Repeat g q → q < r
   unfolding FitsLine
   REPEAT_below k = (line_fits k).1
+
+  pub callee_below : {q : ℕ} → (l ≡ Call q) ⊎ ((g : Reg) × (l ≡ Repeat g q)) → q < r
+  callee_below (inl k) = CALL_below k
+  callee_below (inr (g, k)) = REPEAT_below k
 
 -- ---- a line of a flat book
 

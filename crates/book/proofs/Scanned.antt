@@ -1,5 +1,6 @@
 -- Tests in a loop: while all have passed the loop goes on, the first refusal is the answer, and where none is left all pass.
 -- A loop keeps how far all have passed (`PassedTo`); one law for each way out of the table's loop and of the lines' loops. Assumes nothing.
+use Rattle.std.specs.Prelude.{Result, Ok, Err}
 use Prim.Native.Nat.{ℕ, ◌+◌, ◌-◌, ◌<◌, ◌≤◌}
 use native.Mathlib.Omega.{arith}
 use native.Mathlib.Numerals.{add-one}
@@ -15,8 +16,6 @@ use Rattle.scope.proofs.TakenBook.{table_ends_within}
 use Rattle.book.specs.declared.header.Counts.{Counts}
 use Rattle.book.specs.declared.lines.Fields.{Fields}
 use Rattle.book.specs.declared.refusals.Refusal as refusals
-use Rattle.book.specs.declared.refusals.Verdict as verdicts
-use Rattle.book.specs.declared.refusals.Verdict.TheVariants.{Pass, Refuse}
 use Rattle.book.specs.Told.{refusal_told, fields_told, verdict_told}
 use Rattle.book.specs.Asked.{Sized, Tabled, LineWithin}
 
@@ -28,11 +27,11 @@ below_R r s h = rw (sym s.counts.routines_are) h
 
 -- ---- what a verdict in hand says of the definition's
 
-pub told_pass : {v : verdicts.Verdict} {w : Verdict} → verdict_told v ≡ w → v ≡ Pass → w ≡ pass
+pub told_pass : {v : Result (Unit {0}) refusals.Refusal} {w : Verdict} → verdict_told v ≡ w → v ≡ Ok tt → w ≡ pass
 unfolding verdict_told
 told_pass s e = sym s ∙ ap verdict_told e
 
-pub told_refusal : {v : verdicts.Verdict} {w : Verdict} {x : refusals.Refusal} → verdict_told v ≡ w → v ≡ Refuse x → w ≡ refuse (refusal_told x)
+pub told_refusal : {v : Result (Unit {0}) refusals.Refusal} {w : Verdict} {x : refusals.Refusal} → verdict_told v ≡ w → v ≡ Err x → w ≡ refuse (refusal_told x)
 unfolding verdict_told
 told_refusal s e = sym s ∙ ap verdict_told e
 
@@ -126,7 +125,7 @@ module _ {b : List ℕ} {c : Counts} (r f n j : ℕ) (t : Tabled b c) (h : r < c
       }
 
 -- Line j of routine r, which starts at f and has n lines: x was read there, and v said of it.
-module _ (b : List ℕ) (x : Fields) (r f n j : ℕ) (v : verdicts.Verdict) (starts : f ≡ first_line b r) (counted : n ≡ count b r)
+module _ (b : List ℕ) (x : Fields) (r f n j : ℕ) (v : Result (Unit {0}) refusals.Refusal) (starts : f ≡ first_line b r) (counted : n ≡ count b r)
     (read : fields_told x ≡ fields_at b (f + j)) (said : verdict_told v ≡ line_test x.kind x.register x.operand r n (f + j)) where
   line_tested : verdict_told v ≡ line_verdict b r j
   unfolding line_verdict line_number fields_in fields_told
@@ -137,11 +136,11 @@ module _ (b : List ℕ) (x : Fields) (r f n j : ℕ) (v : verdicts.Verdict) (sta
       let o : x.operand ≡ (fields_at b (f + j)).operand = ap (λ (y : LineFields). y.operand) read in
       said ∙ rw (k, g, o, place, counted)
 
-  pub line_passed : v ≡ Pass → PassedTo (line_verdict b r) n j → j < n → PassedTo (line_verdict b r) n (j + 1)
+  pub line_passed : v ≡ Ok tt → PassedTo (line_verdict b r) n j → j < n → PassedTo (line_verdict b r) n (j + 1)
   line_passed e p h = one_more p h (told_pass line_tested e)
 
-  pub line_refused : {y : refusals.Refusal} (R : ℕ) → v ≡ Refuse y → PassedTo (line_verdict b r) n j → j < n
-      → PassedTo (routine_verdict b) R r → r < R → R ≡ routines b → verdict_told (Refuse y) ≡ lines_verdict b
+  pub line_refused : {y : refusals.Refusal} (R : ℕ) → v ≡ Err y → PassedTo (line_verdict b r) n j → j < n
+      → PassedTo (routine_verdict b) R r → r < R → R ≡ routines b → verdict_told (Err y) ≡ lines_verdict b
   unfolding verdict_told lines_verdict routine_verdict
   line_refused R e p h q l k =
       let hit = stopped p h (told_refusal line_tested e) in

@@ -1,10 +1,11 @@
 -- No two answers tell the same: each is got back from what it tells.
 -- By the cases of each type; what is got back from what x tells is x, so two that tell the same are the same. Assumes nothing.
+use Rattle.std.specs.Prelude.{ℕ, Result, Ok, Err}
 use mathlib.Core.Path.{◌≡◌, refl, sym, ◌∙◌, ap}
 use Rattle.scope.specs.Refusals as paper
 use Rattle.scope.specs.Refusals.{Answer, refused, accepted}
 use Rattle.scope.specs.Book as book
-use Rattle.scope.specs.Book.{LineFields, line_of}
+use Rattle.scope.specs.Book.{fields_of, line_of}
 use Rattle.scope.specs.Ram as ram
 use Rattle.scope.proofs.TakenBook.{line_read_back}
 use Rattle.book.specs.declared.refusals.Name.{Name}
@@ -14,11 +15,8 @@ use Rattle.book.specs.declared.lines.Line.{Line}
 use Rattle.book.specs.declared.lines.Line.TheVariants as line
 use Rattle.book.specs.declared.flat.Instruction.{Instruction}
 use Rattle.book.specs.declared.flat.Instruction.TheVariants as instruction
-use Rattle.book.specs.declared.Checked.{Checked}
-use Rattle.book.specs.declared.Checked.TheVariants as checked
-use Rattle.book.specs.declared.Read.{Read}
-use Rattle.book.specs.declared.Read.TheVariants as read
-use Rattle.book.specs.Told.{name_told, refusal_told, counts_told, check_told, line_told, read_told, instruction_told}
+use Rattle.book.specs.declared.header.Counts.{Counts}
+use Rattle.book.specs.Told.{name_told, refusal_told, answer_told, number_told, counts_told, check_told, line_told, read_told, instruction_told}
 
 -- what is got back tells apart
 pub apart : {A B : Type 0} (told : A → B) (back : B → A) → ((x : A) → back (told x) ≡ x) → (x y : A) → told x ≡ told y → x ≡ y
@@ -79,19 +77,28 @@ refusal_again x = ap (λ (n : Name). record { name = n; place = x.place }) (name
 pub refusals_apart : (x y : Refusal) → refusal_told x ≡ refusal_told y → x ≡ y
 refusals_apart = apart refusal_told refusal_back refusal_again
 
--- ---- checking a book
+-- ---- answers
 
-abbrev checked_back : Answer book.Counts → Checked
-checked_back (accepted c) = checked.Taken (record { routines = c.routine_count; lines = c.line_count })
-checked_back (refused x) = checked.Refused (refusal_back x)
+-- An answer or its refusal is got back where the answer is.
+module _ {A B : Type 0} (told : A → B) (back : B → A) (again : (x : A) → back (told x) ≡ x) where
+  answer_back : Answer B → Result A Refusal
+  answer_back (accepted x) = Ok (back x)
+  answer_back (refused x) = Err (refusal_back x)
 
-checked_again : (k : Checked) → checked_back (check_told k) ≡ k
-unfolding check_told counts_told
-checked_again (checked.Taken c) = refl
-checked_again (checked.Refused x) = ap checked.Refused (refusal_again x)
+  answer_again : (r : Result A Refusal) → answer_back (answer_told told r) ≡ r
+  unfolding answer_told answer_back
+  answer_again (Ok x) = ap Ok (again x)
+  answer_again (Err x) = ap Err (refusal_again x)
 
-pub checks_apart : (k l : Checked) → check_told k ≡ check_told l → k ≡ l
-checks_apart = apart check_told checked_back checked_again
+  pub answers_apart : (r s : Result A Refusal) → answer_told told r ≡ answer_told told s → r ≡ s
+  answers_apart = apart (answer_told told) answer_back answer_again
+
+pub numbers_apart : (r s : Result ℕ Refusal) → number_told r ≡ number_told s → r ≡ s
+numbers_apart = answers_apart (λ n. n) (λ n. n) (λ n. refl)
+
+pub checks_apart : (k l : Result Counts Refusal) → check_told k ≡ check_told l → k ≡ l
+unfolding counts_told
+checks_apart = answers_apart counts_told (λ c. record { routines = c.routine_count; lines = c.line_count }) (λ c. refl)
 
 -- ---- lines
 
@@ -113,17 +120,9 @@ line_again (line.Repeat r k) = refl
 pub lines_apart : (l m : Line) → line_told l ≡ line_told m → l ≡ m
 lines_apart = apart line_told line_back line_again
 
-abbrev read_back : Answer LineFields → Read
-read_back (accepted f) = read.Found (line_back (line_of f))
-read_back (refused x) = read.Refused (refusal_back x)
-
-read_again : (r : Read) → read_back (read_told r) ≡ r
-unfolding read_told
-read_again (read.Found l) = ap read.Found (ap line_back (line_read_back (line_told l)) ∙ line_again l)
-read_again (read.Refused x) = ap read.Refused (refusal_again x)
-
-pub reads_apart : (r s : Read) → read_told r ≡ read_told s → r ≡ s
-reads_apart = apart read_told read_back read_again
+pub reads_apart : (r s : Result Line Refusal) → read_told r ≡ read_told s → r ≡ s
+reads_apart =
+    answers_apart (λ l. fields_of (line_told l)) (λ f. line_back (line_of f)) (λ l. ap line_back (line_read_back (line_told l)) ∙ line_again l)
 
 abbrev instruction_back : ram.Instruction → Instruction
 instruction_back (ram.INC r) = instruction.Inc (record { 0 = r })

@@ -2,13 +2,14 @@
 -- Writing at the end of what was written is writing both at once (`written_on`). Assumes nothing.
 use mir.Syntax.{w16}
 use mir.Val.{Fits}
-use Prim.Native.Nat.{ℕ, ◌+◌, ◌*◌, ◌/◌, ◌%◌, ◌≤◌}
+use Prim.Native.Nat.{ℕ, ◌+◌, ◌-◌, ◌*◌, ◌/◌, ◌%◌, ◌≤◌}
 use native.Mathlib.Omega.{arith}
-use native.Mathlib.Numerals.{add-one, add-two, add-three}
+use native.Mathlib.Numerals.{add-one}
 use mathlib.Core.Path.{◌≡◌, refl, sym, ◌∙◌, ap}
 use mathlib.Core.List.{List, [], ◌∷◌, ◌++◌, append_assoc, append-nil}
-use lib.ListN.{length, take, drop, get_or, set, length-append, take-append-drop, drop_of_length-le}
-use lib.Seq.{length-take-le, take_all, take-suc, take_at, drop-append-add, drop-cons, drop-drop, sets-eq}
+use borrow.Rule.Slice.PartMut.{mid_of, put_mid}
+use lib.ListN.{length, take, drop, get_or, length-append, length-drop, take-append-drop, drop_of_length-le}
+use lib.Seq.{length-take-le, take_all, take-suc, take_at, drop-append-add, drop-cons, drop-drop}
 use Rattle.scope.specs.Book.{LineFields, fields_of, two_bytes, two_bytes_each, the_format, header_bytes, line_table_due, length_due}
 use Rattle.scope.specs.Ram as ram
 use Rattle.scope.specs.Ram.{Program, TargetWithin}
@@ -23,11 +24,15 @@ use Rattle.book.specs.declared.lines.Fields.{Fields}
 use Rattle.book.specs.Told.{instruction_told, fields_told}
 use Rattle.book.specs.Written.{with_bytes, with_lines}
 
--- four stores, one behind the other
-pub four_stored : (out : List ℕ) (at a b c d : ℕ) → at + 4 ≤ length out
-    → set (set (set (set out at a) (at + 1) b) (at + 2) c) (at + 3) d ≡ with_bytes out at (a ∷ b ∷ c ∷ d ∷ [])
+-- bytes copied over the part of the output that begins at a place
+pub bytes_put : (out bytes part : List ℕ) (at n : ℕ) → at + n ≤ length out → length part ≡ length (mid_of at (at + n - at) out) → part ≡ bytes
+    → put_mid at (at + n - at) out part ≡ with_bytes out at bytes
 unfolding with_bytes
-four_stored out at a b c d h = rw (add-one at, add-two at, add-three at) (sets-eq (a ∷ b ∷ c ∷ d ∷ []) out at h)
+bytes_put out bytes part at n room long same =
+    let size : at + n - at ≡ n = omega arith in
+    let whole : length bytes ≡ n =
+    ap length (sym same) ∙ long ∙ length-take-le (at + n - at) (drop at out) (omega (arith, room, length-drop at out)) ∙ size in
+    rw (size, same, sym whole, drop-drop (length bytes) at out) (sym (append_assoc (take at out) bytes _))
 
 -- Where nothing is written, all is as it was; ..
 pub nothing_written : (out : List ℕ) (at : ℕ) → out ≡ with_bytes out at []

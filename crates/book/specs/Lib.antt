@@ -3,3 +3,4 @@ pub mod Told
 pub mod Asked
 pub mod Limits
 pub mod Written
+pub mod Opened

@@ -10,32 +10,21 @@ ghost use Rattle.book.specs.Written.{with_bytes};
 
 use super::header::{ENTRY_BYTES, HEADER_BYTES, LINE_BYTES, THE_FORMAT};
 use super::lines::{DEC, Fields, GO_TO, INC, Reg, fields_at};
-use super::numbers::{high, low};
+use super::numbers::{high, low, put_bytes};
 
 // The header of a flat book, with the entry of its one routine.
 pub const FLAT_HEADER_BYTES: usize = HEADER_BYTES + ENTRY_BYTES;
 
 // A flat line number, kept apart from a routine's. It is wide, since the machine indexes by it at every step.
-#[derive(Clone, Copy)]
+#[derive(Clone, Copy, Debug, PartialEq, Eq)]
 pub struct FlatLine(pub usize);
 
 // A target is a flat line.
-#[derive(Clone, Copy)]
+#[derive(Clone, Copy, Debug, PartialEq, Eq)]
 pub enum Instruction {
     Inc(Reg),
     Dec(Reg, FlatLine),
     GoTo(FlatLine),
-}
-
-// Every byte of a flat book is written here.
-fn put_four(out: &mut [u8], at: usize, a: u8, b: u8, c: u8, d: u8)
-    requires { at + 4 ≤ length out.old }
-    ensures { out.new ≡ with_bytes out.old at (a ∷ b ∷ c ∷ d ∷ []) }
-{
-    out[at] = a;
-    out[at + 1] = b;
-    out[at + 2] = c;
-    out[at + 3] = d;
 }
 
 // Two numbers of two bytes each.
@@ -43,7 +32,7 @@ fn put_two(out: &mut [u8], at: usize, m: u16, n: u16)
     requires { at + 4 ≤ length out.old }
     ensures { out.new ≡ with_bytes out.old at (two_bytes_each (m ∷ n ∷ [])) }
 {
-    put_four(out, at, low(m), high(m), low(n), high(n));
+    put_bytes(out, at, [low(m), high(m), low(n), high(n)]);
 }
 
 // Writes the header of a flat book of n lines, with the entry of its routine.
@@ -92,23 +81,21 @@ pub fn put_line(out: &mut [u8], i: FlatLine, x: Instruction)
     let f = fields_of(x);
     let operand = f.operand;
     let at = FLAT_HEADER_BYTES + LINE_BYTES * i.0;
-    put_four(out, at, f.kind, f.register, low(operand), high(operand));
+    put_bytes(out, at, [f.kind, f.register, low(operand), high(operand)]);
 }
 
 // In a flat book each line is INC, DEC or GO TO.
-fn instruction_of(f: Fields) -> Instruction
-    ensures { instruction_told result ≡ instruction_of (fields_told f) }
-{
-    let kind = f.kind;
-    let operand = f.operand;
-    let target = operand as usize;
-    if kind == INC {
-        return Instruction::Inc(Reg(f.register));
+impl From<Fields> for Instruction {
+    ghost from_gives = { λ f x. instruction_told x ≡ instruction_of (fields_told f) };
+
+    fn from(f: Fields) -> Instruction {
+        let target = f.operand as usize;
+        match f.kind {
+            INC => Instruction::Inc(Reg(f.register)),
+            DEC => Instruction::Dec(Reg(f.register), FlatLine(target)),
+            _ => Instruction::GoTo(FlatLine(target)),
+        }
     }
-    if kind == DEC {
-        return Instruction::Dec(Reg(f.register), FlatLine(target));
-    }
-    Instruction::GoTo(FlatLine(target))
 }
 
 // What stands at flat line i of a book with one routine. A target is read as a flat line here and nowhere else.
@@ -116,5 +103,5 @@ pub fn instruction_at(b: &[u8], i: FlatLine) -> Instruction
     requires { LineWithin b.now 1 i.0 }
     ensures { instruction_told result ≡ instruction_of (fields_at b.now i.0) }
 {
-    instruction_of(fields_at(b, 1, i.0))
+    Instruction::from(fields_at(b, 1, i.0))
 }

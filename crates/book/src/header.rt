@@ -5,7 +5,7 @@ ghost use Rattle.book.specs.Told.{verdict_told};
 ghost use Rattle.book.specs.Asked.{HeaderOf, CountsOf};
 
 use super::numbers::two_byte;
-use super::refusals::{Name, Refusal, Verdict};
+use super::refusals::{Name, Refusal};
 
 pub(crate) const HEADER_BYTES: usize = 12;
 
@@ -20,14 +20,14 @@ pub const MOST_ROUTINES: u16 = 32;
 pub const MOST_LINES: u16 = 4096;
 
 // How many routines and lines a book has.
-#[derive(Clone, Copy)]
+#[derive(Clone, Copy, Debug, PartialEq, Eq)]
 pub struct Counts {
     pub routines: u16,
     pub lines: u16,
 }
 
 // The six numbers of the header. `entries` and `body` are the offsets of the routine table and of the line table.
-#[derive(Clone, Copy)]
+#[derive(Clone, Copy, Debug, PartialEq, Eq)]
 pub(crate) struct Header {
     pub(crate) format: u16,
     pub(crate) routines: u16,
@@ -68,25 +68,25 @@ fn offsets_wrong(h: Header) -> bool
 }
 
 // 2 to 5, in order. 2 FORMAT: format is not 1. 5 LENGTH: the slice is not as long as stated.
-fn header_test(size: usize, h: Header) -> Verdict
+fn header_test(size: usize, h: Header) -> Result<(), Refusal>
     requires { header_bytes ≤ size }
     ensures { verdict_told result ≡ header_test size h.format h.routines h.lines h.entries h.body h.stated }
 {
     let format = h.format;
     if format != THE_FORMAT {
-        return Verdict::Refuse(Refusal::of(Name::Format));
+        return Err(Refusal::of(Name::Format));
     }
     if counts_wrong(h.routines, h.lines) {
-        return Verdict::Refuse(Refusal::of(Name::Counts));
+        return Err(Refusal::of(Name::Counts));
     }
     if offsets_wrong(h) {
-        return Verdict::Refuse(Refusal::of(Name::Offsets));
+        return Err(Refusal::of(Name::Offsets));
     }
     let stated = h.stated as usize;
     if size != stated {
-        return Verdict::Refuse(Refusal::of(Name::Length));
+        return Err(Refusal::of(Name::Length));
     }
-    Verdict::Pass
+    Ok(())
 }
 
 fn read_header(b: &[u8]) -> Header
@@ -104,12 +104,12 @@ fn read_header(b: &[u8]) -> Header
 }
 
 // 1 SHORT: fewer than 12 bytes. Then 2 to 5.
-pub(crate) fn header_verdict(b: &[u8]) -> Verdict
+pub(crate) fn header_verdict(b: &[u8]) -> Result<(), Refusal>
     ensures { verdict_told result ≡ header_verdict b.now }
 {
     let size = b.len();
     if size < HEADER_BYTES {
-        return Verdict::Refuse(Refusal::of(Name::Short));
+        return Err(Refusal::of(Name::Short));
     }
     header_test(size, read_header(b))
 }

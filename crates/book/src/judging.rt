@@ -1,87 +1,67 @@
 // The lines' tests, 7 to 10: each line is read, and then judged.
 ghost use Rattle.std.specs.Prelude.{◌≡◌};
-ghost use Rattle.scope.specs.Words.{◌is◌, ◌or◌};
-ghost use Rattle.scope.specs.Book.{kind_wrong, register_wrong, target_wrong, callee_wrong, line_test, lines_verdict};
-ghost use Rattle.book.specs.Told.{verdict_told};
+ghost use Rattle.scope.specs.Book.{register_wrong, target_wrong, callee_wrong, line_test, lines_verdict};
+ghost use Rattle.book.specs.Told.{verdict_told, kind_told};
 ghost use Rattle.book.specs.Limits.{limits, within};
 ghost use Rattle.book.specs.Asked.{Tabled};
 
 use super::header::Counts;
-use super::lines::{CALL, DEC, Fields, GO_TO, INC, REPEAT, fields_at};
-use super::refusals::{Name, Refusal, Verdict};
+use super::lines::{Fields, Kind, fields_at};
+use super::refusals::{Name, Refusal};
 use super::table;
 
 const LAST_REGISTER: u8 = 31;
 // A row of limits has room for kinds 0 to 7.
 const KINDS: usize = 8;
 
-// 7 KIND: kind not 1 to 5.
-fn kind_wrong(kind: u8) -> bool
-    ensures { result ≡ kind_wrong kind }
-{
-    if kind < INC {
-        return true;
-    }
-    REPEAT < kind
-}
-
-fn is_either(kind: u8, this: u8, that: u8) -> bool
-    ensures { result ≡ (kind is this or kind is that) }
-{
-    kind == this || kind == that
-}
-
 // 8 REGISTER: above 31, or not 0 where 0 stands, in GO TO and CALL.
-fn register_wrong(kind: u8, register: u8) -> bool
-    ensures { result ≡ register_wrong kind register }
+fn register_wrong(kind: Kind, register: u8) -> bool
+    ensures { result ≡ register_wrong (kind_told kind) register }
 {
-    if is_either(kind, GO_TO, CALL) {
-        return register != 0;
+    match kind {
+        Kind::GoTo | Kind::Call => register != 0,
+        Kind::Inc | Kind::Dec | Kind::Repeat => LAST_REGISTER < register,
     }
-    LAST_REGISTER < register
 }
 
 // 9 TARGET: target past the end, in DEC and GO TO, or INC's operand not 0.
-fn target_wrong(kind: u8, operand: u16, count: u16) -> bool
-    ensures { result ≡ target_wrong kind operand count }
+fn target_wrong(kind: Kind, operand: u16, count: u16) -> bool
+    ensures { result ≡ target_wrong (kind_told kind) operand count }
 {
-    if kind == INC {
-        return operand != 0;
+    match kind {
+        Kind::Inc => operand != 0,
+        Kind::Dec | Kind::GoTo => count < operand,
+        Kind::Call | Kind::Repeat => false,
     }
-    if is_either(kind, DEC, GO_TO) {
-        return count < operand;
-    }
-    false
 }
 
 // 10 CALLEE: routine not below its own, in CALL and REPEAT.
-fn callee_wrong(kind: u8, operand: u16, caller: u16) -> bool
-    ensures { result ≡ callee_wrong kind operand caller }
+fn callee_wrong(kind: Kind, operand: u16, caller: u16) -> bool
+    ensures { result ≡ callee_wrong (kind_told kind) operand caller }
 {
-    if is_either(kind, CALL, REPEAT) {
-        return caller <= operand;
+    match kind {
+        Kind::Call | Kind::Repeat => caller <= operand,
+        Kind::Inc | Kind::Dec | Kind::GoTo => false,
     }
-    false
 }
 
 // A line is tested 7, 8, 9, 10.
-fn line_test(f: Fields, caller: u16, count: u16, place: u16) -> Verdict
+fn line_test(f: Fields, caller: u16, count: u16, place: u16) -> Result<(), Refusal>
     ensures { verdict_told result ≡ line_test f.kind f.register f.operand caller count place }
 {
-    let kind = f.kind;
-    if kind_wrong(kind) {
-        return Verdict::Refuse(Refusal::at(Name::Kind, place));
-    }
+    let Ok(kind) = Kind::try_from(f.kind) else {
+        return Err(Refusal::at(Name::Kind, place));
+    };
     if register_wrong(kind, f.register) {
-        return Verdict::Refuse(Refusal::at(Name::Register, place));
+        return Err(Refusal::at(Name::Register, place));
     }
     if target_wrong(kind, f.operand, count) {
-        return Verdict::Refuse(Refusal::at(Name::Target, place));
+        return Err(Refusal::at(Name::Target, place));
     }
     if callee_wrong(kind, f.operand, caller) {
-        return Verdict::Refuse(Refusal::at(Name::Callee, place));
+        return Err(Refusal::at(Name::Callee, place));
     }
-    Verdict::Pass
+    Ok(())
 }
 
 // What a line's register has to be below, for kinds 0 to 7, and then what its operand has to be below, so that nothing of 7 to 10 is wrong.
@@ -113,49 +93,41 @@ fn within(f: Fields, row: &[u32; 2 * KINDS]) -> bool
 }
 
 // A line within its limits passes; any other is tested, and so the number that is wrong is found.
-fn line_verdict(f: Fields, caller: u16, count: u16, place: u16, row: &[u32; 2 * KINDS]) -> Verdict
+fn line_verdict(
+    f: Fields,
+    caller: u16,
+    count: u16,
+    place: u16,
+    row: &[u32; 2 * KINDS],
+) -> Result<(), Refusal>
     requires { row.now ≡ limits caller count }
     ensures { verdict_told result ≡ line_test f.kind f.register f.operand caller count place }
 {
     if within(f, row) {
-        return Verdict::Pass;
+        return Ok(());
     }
     line_test(f, caller, count, place)
 }
 
 // The lowest bad line is the one named, found routine by routine.
-pub(crate) fn lines_verdict(b: &[u8], counts: Counts) -> Verdict
+pub(crate) fn lines_verdict(b: &[u8], counts: Counts) -> Result<(), Refusal>
     requires { Tabled b.now counts }
     ensures { verdict_told result ≡ lines_verdict b.now }
 {
     let routines = counts.routines;
-    let mut r: u16 = 0;
-    'book: loop {
-        if routines <= r {
-            break 'book Verdict::Pass;
-        }
-        let first = table::first_line(b, r);
-        let count = table::count(b, r);
-        let row = limits(r, count);
-        let mut j: u16 = 0;
-        while j < count {
-            let place = first + j;
-            let verdict = line_verdict(
-                fields_at(b, routines, place as usize),
-                r,
-                count,
-                place,
-                &row,
-            );
-            match verdict {
-                Verdict::Refuse(x) => {
-                    break 'book Verdict::Refuse(x);
-                }
-                Verdict::Pass => {
-                    j += 1;
+    'book: {
+        for r in 0..routines {
+            let first = table::first_line(b, r);
+            let count = table::count(b, r);
+            let row = limits(r, count);
+            for j in 0..count {
+                let place = first + j;
+                let fields = fields_at(b, routines, place as usize);
+                if let Err(x) = line_verdict(fields, r, count, place, &row) {
+                    break 'book Err(x);
                 }
             }
         }
-        r += 1;
+        Ok(())
     }
 }

@@ -1,25 +1,26 @@
 // What stands in a line, 4 bytes: kind, register, two-byte operand; and reading it.
 ghost use Rattle.std.specs.Prelude.{◌≡◌, ◌<◌};
 ghost use Rattle.scope.specs.Book.{line_of, count, fields_at, fields_in};
-ghost use Rattle.book.specs.Told.{fields_told, line_told};
+ghost use Rattle.book.specs.Told.{IsKind, fields_told, line_told};
 ghost use Rattle.book.specs.Asked.{LineWithin, Tabled};
 
 use super::header::{Counts, ENTRY_BYTES, HEADER_BYTES, LINE_BYTES};
 use super::numbers::two_byte;
+use super::refusals::Name;
 use super::table;
 
 // A register number and a routine's line number, kept apart.
-#[derive(Clone, Copy)]
+#[derive(Clone, Copy, Debug, PartialEq, Eq)]
 pub struct Reg(pub u8);
 
-#[derive(Clone, Copy)]
+#[derive(Clone, Copy, Debug, PartialEq, Eq)]
 pub struct RoutineLine(pub u16);
 
 // What a register counts to.
 pub const TOP: u16 = 65535;
 
 // A target counts lines of its routine; CALL and REPEAT name a routine.
-#[derive(Clone, Copy)]
+#[derive(Clone, Copy, Debug, PartialEq, Eq)]
 pub enum Line {
     Inc(Reg),
     Dec(Reg, RoutineLine),
@@ -29,18 +30,45 @@ pub enum Line {
 }
 
 // The table of kinds.
-pub(crate) const INC: u8 = 1;
+#[derive(Clone, Copy, Debug, PartialEq, Eq)]
+pub(crate) enum Kind {
+    Inc = 1,
+    Dec = 2,
+    GoTo = 3,
+    Call = 4,
+    Repeat = 5,
+}
 
-pub(crate) const DEC: u8 = 2;
+pub(crate) const INC: u8 = Kind::Inc as u8;
 
-pub(crate) const GO_TO: u8 = 3;
+pub(crate) const DEC: u8 = Kind::Dec as u8;
 
-pub(crate) const CALL: u8 = 4;
+pub(crate) const GO_TO: u8 = Kind::GoTo as u8;
 
-pub(crate) const REPEAT: u8 = 5;
+const CALL: u8 = Kind::Call as u8;
+
+const REPEAT: u8 = Kind::Repeat as u8;
+
+// 7 KIND: kind not 1 to 5.
+impl TryFrom<u8> for Kind {
+    type Error = Name;
+
+    ghost try_from_gives = { IsKind };
+
+    fn try_from(kind: u8) -> Result<Kind, Name> {
+        match kind {
+            INC => Ok(Kind::Inc),
+            DEC => Ok(Kind::Dec),
+            GO_TO => Ok(Kind::GoTo),
+            CALL => Ok(Kind::Call),
+            REPEAT => Ok(Kind::Repeat),
+            _ => Err(Name::Kind),
+        }
+    }
+}
 
 // The four bytes of a line, as they stand.
-#[derive(Clone, Copy)]
+#[derive(Clone, Copy, Debug, PartialEq, Eq)]
 pub(crate) struct Fields {
     pub(crate) kind: u8,
     pub(crate) register: u8,
@@ -57,30 +85,25 @@ pub(crate) fn fields_at(b: &[u8], routines: u16, i: usize) -> Fields
     let register = b[at + 1];
     let operand = two_byte(b, at + 2);
     Fields {
-        kind: kind,
-        register: register,
-        operand: operand,
+        kind,
+        register,
+        operand,
     }
 }
 
 // The table of kinds, read from the kind.
-fn line_of(f: Fields) -> Line
-    ensures { line_told result ≡ line_of (fields_told f) }
-{
-    let kind = f.kind;
-    if kind == INC {
-        return Line::Inc(Reg(f.register));
+impl From<Fields> for Line {
+    ghost from_gives = { λ f l. line_told l ≡ line_of (fields_told f) };
+
+    fn from(f: Fields) -> Line {
+        match f.kind {
+            INC => Line::Inc(Reg(f.register)),
+            DEC => Line::Dec(Reg(f.register), RoutineLine(f.operand)),
+            GO_TO => Line::GoTo(RoutineLine(f.operand)),
+            CALL => Line::Call(f.operand),
+            _ => Line::Repeat(Reg(f.register), f.operand),
+        }
     }
-    if kind == DEC {
-        return Line::Dec(Reg(f.register), RoutineLine(f.operand));
-    }
-    if kind == GO_TO {
-        return Line::GoTo(RoutineLine(f.operand));
-    }
-    if kind == CALL {
-        return Line::Call(f.operand);
-    }
-    Line::Repeat(Reg(f.register), f.operand)
 }
 
 // Line j of a routine.
@@ -92,5 +115,5 @@ pub fn line_at(b: &[u8], counts: Counts, routine: u16, j: RoutineLine) -> Line
 {
     let first = table::first_line(b, routine);
     let i = first + j.0;
-    line_of(fields_at(b, counts.routines, i as usize))
+    Line::from(fields_at(b, counts.routines, i as usize))
 }

@@ -6,7 +6,7 @@ ghost use Rattle.book.specs.Asked.{EntryWithin, Sized};
 
 use super::header::{Counts, ENTRY_BYTES, HEADER_BYTES};
 use super::numbers::two_byte;
-use super::refusals::{Name, Refusal, Verdict};
+use super::refusals::{Name, Refusal};
 
 // The line of the whole book at which a routine starts.
 pub fn first_line(b: &[u8], routine: u16) -> u16
@@ -25,24 +25,22 @@ pub fn count(b: &[u8], routine: u16) -> u16
 }
 
 // 6 ROUTINE: the first routine starts at line 0, each next one where the one before ended, and the last ends at L.
-pub(crate) fn table_verdict(b: &[u8], counts: Counts) -> Verdict
+pub(crate) fn table_verdict(b: &[u8], counts: Counts) -> Result<(), Refusal>
     requires { Sized b.now counts }
     ensures { verdict_told result ≡ table_verdict b.now }
 {
     let routines = counts.routines;
     let lines = counts.lines;
     let mut due: usize = 0;
-    let mut r: u16 = 0;
-    while r < routines {
+    for r in 0..routines {
         let first = first_line(b, r) as usize;
         if first != due {
-            return Verdict::Refuse(Refusal::at(Name::Routine, r));
+            return Err(Refusal::at(Name::Routine, r));
         }
         due = first + count(b, r) as usize;
-        r += 1;
     }
     if due != lines as usize {
-        return Verdict::Refuse(Refusal::at(Name::Routine, routines - 1));
+        return Err(Refusal::at(Name::Routine, routines - 1));
     }
-    Verdict::Pass
+    Ok(())
 }

@@ -9,27 +9,30 @@ fn case(rt: &HostRuntime, name: &str) -> io::Result<()> {
     let input = fs::read(rt, name)?;
     let mut out = [0u8; LONGEST_ANSWER];
     let k = answer(input.as_slice(), &mut out);
-    rt.stdout().write_all(name.as_bytes())?;
-    rt.stdout().write_all(b"\n")?;
+    println!(rt; "{name}")?;
     rt.stdout().write_all(&out[..k])
 }
 
 fn main(rt: HostRuntime) -> io::Result<()> {
-    case(&rt, "A.stdin")?;
-    case(&rt, "B.stdin")?;
-    case(&rt, "B-budget-4.stdin")?;
-    case(&rt, "C.stdin")?;
-    case(&rt, "C-budget-2.stdin")?;
-    case(&rt, "D.stdin")?;
-    case(&rt, "E.stdin")?;
-    case(&rt, "F.stdin")?;
-    case(&rt, "G.stdin")?;
-    case(&rt, "G-also.stdin")?;
-    case(&rt, "H-12.stdin")?;
-    case(&rt, "H-13.stdin")?;
-    case(&rt, "H-4097.stdin")?;
-    case(&rt, "I-2.stdin")?;
-    case(&rt, "I-3.stdin")?;
-    case(&rt, "I-4.stdin")?;
+    for name in [
+        "A.stdin",
+        "B.stdin",
+        "B-budget-4.stdin",
+        "C.stdin",
+        "C-budget-2.stdin",
+        "D.stdin",
+        "E.stdin",
+        "F.stdin",
+        "G.stdin",
+        "G-also.stdin",
+        "H-12.stdin",
+        "H-13.stdin",
+        "H-4097.stdin",
+        "I-2.stdin",
+        "I-3.stdin",
+        "I-4.stdin",
+    ] {
+        case(&rt, name)?;
+    }
     Ok(())
 }

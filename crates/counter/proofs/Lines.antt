@@ -1,14 +1,15 @@
 -- Each line that is printed is a word and two numbers, a FULL line one number more; registers are listed line by line.
--- Read off `print_line`, clause by clause; the loop over the registers has printed the lines of those before j. Assumes nothing.
+-- Read off `print_line`, clause by clause; the loop over the registers has the lines of those from j on before it. Assumes nothing.
+use Rattle.std.specs.Prelude.{Result, Ok, Err}
+use Rattle.book.specs.Told as book
 use Prim.Native.Nat.{ℕ, zero, suc, ◌+◌, ◌≤◌, ◌<◌}
 use native.Mathlib.Omega.{arith}
 use native.Mathlib.Numerals.{add-one}
 use mathlib.Core.Path.{◌≡◌, refl, sym, ◌∙◌, ap}
 use mathlib.Core.Logic.{◌≢◌}
 use mathlib.Core.List.{List, [], ◌∷◌, ◌++◌, append_assoc, append-nil}
-use lib.ListN.{length, length-append, take, get_or}
-use lib.Seq.{take_all}
-use Rattle.io.specs.Digits.{last_digits, IsDigitCount}
+use lib.ListN.{length, length-append, drop, get_or, drop_of_length-le}
+use lib.Seq.{drop-cons}
 use Rattle.scope.specs.Refusals as paper
 use Rattle.scope.specs.Refusals.{number}
 use Rattle.scope.specs.Steps as steps
@@ -20,27 +21,9 @@ use Rattle.book.specs.Told.{name_told, refusal_told}
 use Rattle.unit.specs.declared.machine.Outcome.{Outcome}
 use Rattle.unit.specs.declared.machine.Outcome.TheVariants.{Finished, OutOfSteps, Full}
 use Rattle.unit.specs.declared.machine.Answer.{Answer}
-use Rattle.unit.specs.declared.Ran.{Ran}
-use Rattle.unit.specs.declared.Ran.TheVariants.{Done, Refused}
 use Rattle.unit.specs.Told.{outcome_told, answer_told, ran_told}
-use Rattle.counter.specs.Printed.{Room, printed, number_and, two_numbers, word_and_two, print_answer}
-use Rattle.counter.proofs.Decimal.{digits_are_decimal}
-use Rattle.counter.proofs.Texts.{Parts, nothing_printed, as_long, room_for_the_second, both_printed}
-
--- ---- what texts are made of
-
--- what the kit spells of a number, and the byte behind it
-pub number_in_parts : (n k behind : ℕ) (spelled : List ℕ) → IsDigitCount 10 1 n k → spelled ≡ last_digits 10 k n → Parts (number_and n behind) spelled (behind ∷ [])
-unfolding number_and
-number_in_parts n k behind spelled fewest its_digits = record { joined = rw (its_digits ∙ digits_are_decimal n k fewest) refl }
-
-pub two_in_parts : (n m behind : ℕ) → Parts (two_numbers n m behind) (number_and n 32) (number_and m behind)
-unfolding two_numbers
-two_in_parts n m behind = record { joined = refl }
-
-pub word_in_parts : (word : List ℕ) (n m behind : ℕ) → Parts (word_and_two word n m behind) word (two_numbers n m behind)
-unfolding word_and_two
-word_in_parts word n m behind = record { joined = refl }
+use Rattle.counter.specs.Printed.{Room, number_and, two_numbers, word_and_two, print_answer}
+use Rattle.counter.proofs.Texts.{texts, room_for_the_first, room_for_the_second}
 
 -- a line's fields, as document 01 parts them
 fields_parted : (word : List ℕ) (n m : ℕ) (rest : List ℕ) → word ++ (decimal n ++ (32 ∷ (decimal m ++ rest))) ≡ word ++ (number_and n 32 ++ (decimal m ++ rest))
@@ -87,78 +70,52 @@ module _ (o : Outcome) (s l : ℕ) where
   unfolding outcome_told
   OUT_OF_STEPS_line e = rw e (OUT_OF_STEPS_says s l)
 
-  pub FULL_in_parts : {r : Reg} → o ≡ Full r → Parts (outcome_line (outcome_told o) s l) (word_and_two (ascii "FULL ") s l 32) (number_and r.0 10)
+  pub FULL_line : {r : Reg} → o ≡ Full r → outcome_line (outcome_told o) s l ≡ word_and_two (ascii "FULL ") s l 32 ++ number_and r.0 10
   unfolding outcome_told
-  FULL_in_parts {r} e = record { joined = rw e (FULL_says s l r.0) }
+  FULL_line {r} e = rw e (FULL_says s l r.0)
 
-module _ (r : Ran) (rs : Registers) where
-  pub answer_is_its_refusal : {x : Refusal} → r ≡ Refused x → print_answer (ran_told r) rs ≡ print_refusal (refusal_told x)
-  unfolding print_answer ran_told
+-- how `put_outcome` is met
+pub ruleset outcomes = (texts, FINISHED_line, FULL_line)
+
+module _ (r : Result Answer Refusal) (rs : Registers) where
+  pub answer_is_its_refusal : {x : Refusal} → r ≡ Err x → print_answer (ran_told r) rs ≡ print_refusal (refusal_told x)
+  unfolding print_answer book.answer_told
   answer_is_its_refusal e = rw e refl
 
-  pub answer_in_parts : {a : Answer} → r ≡ Done a
-      → Parts (print_answer (ran_told r) rs) (outcome_line (outcome_told a.outcome) a.steps a.line.0) (register_lines 0 rs)
-  unfolding print_answer ran_told answer_told
-  answer_in_parts e = record { joined = rw e refl }
+  pub answer_is_its_lines : {a : Answer} → r ≡ Ok a
+      → print_answer (ran_told r) rs ≡ outcome_line (outcome_told a.outcome) a.steps a.line.0 ++ register_lines 0 rs
+  unfolding print_answer book.answer_told answer_told
+  answer_is_its_lines e = rw e refl
+
+-- how `put_ran` is met
+pub ruleset ran = (texts, answer_is_its_refusal, answer_is_its_lines, room_for_the_second)
 
 -- ---- registers
 
-pub zero_not_printed : (at j v : ℕ) (out : List ℕ) → v ≡ 0 → record { next = at; left = out } ≡ printed at (register_line j v) out
+pub zero_not_printed : (j v : ℕ) (out : List ℕ) → v ≡ 0 → out ≡ out ++ register_line j v
 unfolding register_line
-zero_not_printed at j v out e = rw e (nothing_printed at out)
+zero_not_printed j v out e = rw e (sym (append-nil out))
 
-one_more_line : (i j : ℕ) (rs : Registers) → j < length rs
-    → register_lines i (take (suc j) rs) ≡ register_lines i (take j rs) ++ register_line (i + j) (get_or rs j 0)
+-- how `put_register` is met
+pub ruleset one_register = (R_says, zero_not_printed)
+
+-- The lines from a register on are its own line and those behind it.
+pub lines_from : (j : ℕ) (rs : Registers) → j < length rs
+    → register_lines j (drop j rs) ≡ register_line j (get_or rs j 0) ++ register_lines (j + 1) (drop (j + 1) rs)
 unfolding register_lines
-one_more_line i j [] h = absurd (omega arith)
-one_more_line i zero (v ∷ rs) h =
-    let here : i + 0 ≡ i = omega arith in
-    rw here (append-nil (register_line i v))
-one_more_line i (suc j) (v ∷ rs) h =
-    let there : suc i + j ≡ i + suc j = omega arith in
-    rw (one_more_line (suc i) j rs (omega arith), there) (sym (append_assoc (register_line i v) _ _))
+lines_from j rs h = rw (drop-cons rs j 0 h, add-one j) refl
 
-no_longer : (i j : ℕ) (rs : Registers) → length (register_lines i (take j rs)) ≤ length (register_lines i rs)
-unfolding register_lines
-no_longer i zero rs = omega arith
-no_longer i (suc j) [] = omega arith
-no_longer i (suc j) (v ∷ rs) =
-    omega (
-      arith,
-      no_longer (suc i) j rs,
-      length-append (register_line i v) (register_lines (suc i) (take j rs)),
-      length-append (register_line i v) (register_lines (suc i) rs),
-    )
+-- What is printed and the lines from register j on are what was printed first and all lines.
+module _ (rs : Registers) (out₀ out : List ℕ) (j : ℕ) (so_far : out ++ register_lines j (drop j rs) ≡ out₀ ++ register_lines 0 rs) where
+  pub room_for_a_register : Room (register_lines 0 rs) out₀ → j < length rs → Room (register_line j (get_or rs j 0)) out
+  room_for_a_register room h =
+      let all_fits : Room (register_lines j (drop j rs)) out =
+      omega (arith, room, ap length so_far, length-append out (register_lines j (drop j rs)), length-append out₀ (register_lines 0 rs)) in
+      room_for_the_first _ _ _ (lines_from j rs h) all_fits
 
--- The lines of the registers before j are printed.
-pub record Listed (from : ℕ) (rs : Registers) (out₀ : List ℕ) (j at : ℕ) (out : List ℕ) : Type 0 where
-  pub upto : j ≤ length rs
-  pub so_far : record { next = at; left = out } ≡ printed from (register_lines 0 (take j rs)) out₀
-
-module _ (from : ℕ) (rs : Registers) (out₀ : List ℕ) where
-  pub none_listed : Listed from rs out₀ 0 from out₀
+  pub all_listed : length rs ≤ j → out ≡ out₀ ++ register_lines 0 rs
   unfolding register_lines
-  none_listed = record { upto = omega arith; so_far = nothing_printed from out₀ }
+  all_listed h = sym (append-nil out) ∙ rw (drop_of_length-le rs {i = j} h) at so_far
 
-  module _ (room : Room from (register_lines 0 rs) out₀) (j at : ℕ) (out : List ℕ) (l : Listed from rs out₀ j at out) where
-    room_to : (k : ℕ) → Room from (register_lines 0 (take k rs)) out₀
-    room_to k = record { enough = omega (arith, room.enough, no_longer 0 k rs) }
-
-    module _ (h : j < length rs) where
-      line_behind : Parts (register_lines 0 (take (j + 1) rs)) (register_lines 0 (take j rs)) (register_line j (get_or rs j 0))
-      line_behind =
-          let here : 0 + j ≡ j = omega arith in
-          record { joined = rw (add-one j) (one_more_line 0 j rs h ∙ ap (λ k. register_lines 0 (take j rs) ++ register_line k (get_or rs j 0)) here) }
-
-      pub room_for_a_register : Room at (register_line j (get_or rs j 0)) out
-      room_for_a_register = room_for_the_second from out₀ (room_to (j + 1)) line_behind l.so_far
-
-      pub one_more_listed : {at' : ℕ} {out' : List ℕ} → record { next = at'; left = out' } ≡ printed at (register_line j (get_or rs j 0)) out
-          → Listed from rs out₀ (j + 1) at' out'
-      one_more_listed p = record { upto = omega arith; so_far = both_printed from out₀ (room_to (j + 1)) line_behind l.so_far p }
-
-    pub listed_as_long : length out ≡ length out₀
-    listed_as_long = as_long from out₀ (register_lines 0 (take j rs)) (room_to j) l.so_far
-
-    pub all_listed : length rs ≤ j → record { next = at; left = out } ≡ printed from (register_lines 0 rs) out₀
-    all_listed h = rw (take_all j rs h) at l.so_far
+-- how `put_registers` is met
+pub ruleset listed = (texts, lines_from, room_for_a_register, all_listed)

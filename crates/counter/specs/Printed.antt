@@ -1,4 +1,4 @@
--- What the counter answers, and words of its private contracts: a text printed at a place, and the parts that lines are made of.
+-- What the counter answers, and words of its private contracts: room for a text, and the parts that lines are made of.
 -- Assumes nothing.
 use Rattle.std.specs.Prelude.{ℕ, ◌+◌, ◌≤◌, List, [], ◌∷◌, ◌++◌, length}
 use Rattle.scope.specs.Refusals.{Answer, refused, accepted, Call}
@@ -6,7 +6,7 @@ use Rattle.scope.specs.Steps.{Registers}
 use Rattle.scope.specs.Flattening.{at_the_front_of}
 use Rattle.scope.specs.Running.{Ran, run_call}
 use Rattle.scope.specs.Shop.{registers_read, budget_read, decimal, outcome_line, register_lines, print_refusal, shop_prints}
-use Rattle.book.specs.Written.{with_bytes}
+use Rattle.counter.specs.declared.TheConstants.{LONGEST_ANSWER}
 
 -- ---- the answer
 
@@ -22,19 +22,9 @@ counter_answers input out = record { count = length (shop_prints input); left = 
 abbrev pub longest_answer : ℕ
 longest_answer = 349
 
--- ---- a text at a place
-
--- there is room for it
-pub record Room (at : ℕ) (text out : List ℕ) : Type 0 where
-  pub enough : at + length text ≤ length out
-
--- where the next one goes, and what is left
-pub record Printed : Type 0 where
-  pub next : ℕ
-  pub left : List ℕ
-
-unfoldable pub printed : (at : ℕ) (text out : List ℕ) → Printed
-printed at text out = record { next = at + length text; left = with_bytes out at text }
+-- behind what is printed there is room for a text
+abbrev pub Room : (text printed : List ℕ) → Type 0
+Room text printed = length printed + length text ≤ LONGEST_ANSWER
 
 -- ---- what lines are made of
 

@@ -4,17 +4,17 @@
 mod printing; // printing.rt: lines and what they are made of
 mod trailer; // trailer.rt: the routine, the registers and the budget behind the book
 
-ghost use Rattle.std.specs.Prelude.{◌≡◌, ◌≤◌, length};
+ghost use Rattle.std.specs.Prelude.{◌≡◌, ◌≤◌, ◌++◌, length};
 ghost use Rattle.scope.specs.Shop.{trailer_length, most_input, shop_prints};
 ghost use Rattle.io.specs.Counts.{IsPrefixLen};
-ghost use Rattle.counter.specs.Printed.{counter_answers, Room, printed, print_run_of};
+ghost use Rattle.counter.specs.Printed.{counter_answers, Room, print_run_of};
 
 use book::flat::FLAT_HEADER_BYTES;
 use book::header::LINE_BYTES;
 use book::refusals::{Name, Refusal};
+use flatten::flatten;
 use flatten::lengths::MOST_FLAT_LINES;
-use flatten::{Flattened, flatten};
-use printing::{put_ran, put_refusal};
+use printing::{Printed, put_ran, put_refusal};
 use trailer::{TRAILER_BYTES, budget_read, registers_read, routine_read};
 use unit::run;
 
@@ -31,54 +31,57 @@ pub const LONGEST_ANSWER: usize = 349;
 const LONGEST_FLAT_BOOK: usize = FLAT_HEADER_BYTES + LINE_BYTES * MOST_FLAT_LINES;
 
 // Runs a flat book from line 0 and prints.
-fn run_and_print(flat: &[u8], input: &[u8], out: &mut [u8]) -> usize
-    requires trailer_length_in_bounds { trailer_length ≤ length input.now }
-    requires room { Room 0 (print_run_of flat.now input.now) out.old }
-    ensures { record { next = result; left = out.new } ≡ printed 0 (print_run_of flat.now input.now) out.old }
+#[tactic(auto, using(crate::proofs::Served::run_is_printed))]
+fn run_and_print(flat: &[u8], trailer: &[u8; TRAILER_BYTES], out: &mut Printed)
+    requires { Room (print_run_of flat.now trailer.now) out.old.items }
+    ensures { out.new.items ≡ out.old.items ++ print_run_of flat.now trailer.now }
 {
-    let mut regs = registers_read(input);
-    let ran = run(flat, 0, &mut regs, budget_read(input));
-    put_ran(out, ran, &regs)
+    let mut regs = registers_read(trailer);
+    let ran = run(flat, 0, &mut regs, budget_read(trailer));
+    put_ran(out, ran, &regs);
 }
 
 // It flattens, runs from line 0 and prints.
-fn flatten_and_run(input: &[u8], out: &mut [u8]) -> usize
-    requires trailer_length_in_bounds { trailer_length ≤ length input.now }
-    requires input_len_bound { length input.now ≤ most_input }
-    requires room { Room 0 (shop_prints input.now) out.old }
-    ensures { record { next = result; left = out.new } ≡ printed 0 (shop_prints input.now) out.old }
+fn flatten_and_run(book: &[u8], trailer: &[u8; TRAILER_BYTES], out: &mut Printed)
+    requires not_too_long { length (book.now ++ trailer.now) ≤ most_input }
+    requires room { Room (shop_prints (book.now ++ trailer.now)) out.old.items }
+    ensures { out.new.items ≡ out.old.items ++ shop_prints (book.now ++ trailer.now) }
 {
     let mut flat = [0u8; LONGEST_FLAT_BOOK];
-    let split = input.len() - TRAILER_BYTES;
-    let routine = routine_read(input) as usize;
-    let flattened = flatten(&input[..split], routine, &mut flat);
+    let flattened = flatten(book, usize::from(routine_read(trailer)), &mut flat);
     match flattened {
-        Flattened::Refused(x) => put_refusal(out, x),
-        Flattened::Flat(n) => {
+        Err(x) => put_refusal(out, x),
+        Ok(n) => {
             let end = FLAT_HEADER_BYTES + LINE_BYTES * n;
-            run_and_print(&flat[..end], input, out)
+            run_and_print(&flat[..end], trailer, out)
         }
     }
 }
 
 // Under 74 bytes prints "REFUSED 1 0"; over 16,598 prints "REFUSED 5 0"; both before any other check.
-fn print_answer(input: &[u8], out: &mut [u8]) -> usize
-    requires { Room 0 (shop_prints input.now) out.old }
-    ensures { record { next = result; left = out.new } ≡ printed 0 (shop_prints input.now) out.old }
+#[tactic(auto, using(crate::proofs::Served::by_size), unfolding(book::specs::Told::name_told))]
+fn print_answer(input: &[u8], out: &mut Printed)
+    requires { Room (shop_prints input.now) out.old.items }
+    ensures { out.new.items ≡ out.old.items ++ shop_prints input.now }
 {
-    if input.len() < TRAILER_BYTES {
+    let Some((book, trailer)) = input.split_last_chunk::<TRAILER_BYTES>() else {
         return put_refusal(out, Refusal::of(Name::Short));
-    }
+    };
     if MOST_INPUT < input.len() {
         return put_refusal(out, Refusal::of(Name::Length));
     }
-    flatten_and_run(input, out)
+    flatten_and_run(book, trailer, out)
 }
 
 // Puts what the program prints at the front of the output, and answers how many bytes that is. No answer is longer than the output.
+#[tactic(auto, using(crate::proofs::Served::answered))]
 pub fn answer(input: &[u8], out: &mut [u8; LONGEST_ANSWER]) -> usize
     ensures out_after { record { count = result; left = out.new } ≡ counter_answers input.now out.old }
     ensures prefix_len { IsPrefixLen result out.new }
 {
-    print_answer(input, out)
+    let mut printed = Printed::new();
+    print_answer(input, &mut printed);
+    let n = printed.len();
+    out[..n].copy_from_slice(&printed);
+    n
 }

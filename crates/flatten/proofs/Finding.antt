@@ -116,7 +116,7 @@ module _ (b : List ℕ) (guess : Place) (p : ℕ) (w : InTheCopy b guess.routine
 -- ---- opening a copy
 
 module _ (b starts : List ℕ) (T : Table b starts) (copy : Place) (p : ℕ) (w : InTheCopy b copy.routine copy.base.0 p) where
-  pub has_a_line : (seen : List ℕ) → length seen ≡ most_routines → copy.routine < length seen
+  pub has_a_line : {A : Type 0} (seen : List A) → length seen ≡ most_routines → copy.routine < length seen
   has_a_line seen long = omega (arith, long, w.copy_within.a_routine, (taken_book b T.taken).header.routines_to_32)
 
   module _ (guess : Place) (line : RoutineLine) (made : guess ≡ record { routine = copy.routine; base = copy.base; line = line }) where

@@ -6,6 +6,5 @@ pub mod Pasting
 pub mod Putting
 pub mod Answers
 -- what callers have
-pub mod Told
 pub mod Unique
 pub mod Output

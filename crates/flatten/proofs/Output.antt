@@ -1,5 +1,6 @@
 -- What a caller has in its output where flattening answers n: the flat book in front, behind it what was there, and at flat line i the
 -- instruction that the flat program has there, every jump moved. The promise gives the bytes, and `scope` what they say. Assumes nothing.
+use Rattle.std.specs.Prelude.{Ok}
 use Prim.Native.Nat.{ℕ, ◌+◌, ◌<◌}
 use native.Mathlib.Omega.{arith}
 use mathlib.Core.Path.{◌≡◌, sym, ◌∙◌, ap}
@@ -18,16 +19,15 @@ use Rattle.scope.proofs.GivenByCalls.{flattens_exactly_when}
 use Rattle.scope.proofs.FlatLines.{length_flat_program, Stands, line_stands, repeat_looks, repeat_goes_back}
 use Rattle.scope.proofs.WrittenBook.{length_flat_book, read_at}
 use Rattle.scope.proofs.FlatBook.{flat_program_fits, flat_book_is_taken}
-use Rattle.flatten.specs.declared.Flattened.TheVariants.{Flat}
-use Rattle.flatten.specs.Told.{flattened_told}
+use Rattle.book.specs.Told.{answer_told, number_told}
 
 -- This is what a caller learns of `flatten` where it answers n.
-module _ (b : List ℕ) (k n : ℕ) (out out' : List ℕ) (told : record { answer = flattened_told (Flat n); left = out' } ≡ flatten_call b k out) where
+module _ (b : List ℕ) (k n : ℕ) (out out' : List ℕ) (told : record { answer = number_told (Ok n); left = out' } ≡ flatten_call b k out) where
   abbrev flat : Program
   flat = flat_program (book_of b) k
 
   passed : (flatten_verdict b k (length out) ≡ pass) × (flat_length (book_of b) k ≡ n)
-  unfolding flattened_told flatten_call call_of
+  unfolding answer_told flatten_call call_of
   passed = accepted_only_where_passed (flatten_verdict b k (length out)) (ap (λ c. c.answer) (sym told))
 
   -- The routine flattens, and n is its length.

@@ -280,17 +280,17 @@ lies_here P b here p n end c size h e s =
 
 -- At every turn flat line p lies in a line of a copy that stands in the program. (Of the lines seen nothing is asked but that each routine has
 -- its own: a guess is tried before it is taken.)
-pub record Looking (P : Program) (b starts : List ℕ) (at : Place) (p : ℕ) (seen₀ seen : List ℕ) : Type 0 where
+pub record Looking (P : Program) (b starts : List ℕ) (at : Place) (p : ℕ) (seen₀ seen : List RoutineLine) : Type 0 where
   pub table : Table b starts
   pub lies_in : LiesIn P b at p
   pub a_line_each : length seen ≡ most_routines
   pub as_many : length seen ≡ length seen₀
 
-pub looks_first : (P : Program) (b starts : List ℕ) (at : Place) (p : ℕ) (lent seen : List ℕ) → Table b starts → LiesIn P b at p
+pub looks_first : (P : Program) (b starts : List ℕ) (at : Place) (p : ℕ) (lent seen : List RoutineLine) → Table b starts → LiesIn P b at p
     → length lent ≡ most_routines → length seen ≡ length lent → Looking P b starts at p seen seen
 looks_first P b starts at p lent seen T s long same = record { table = T; lies_in = s; a_line_each = same ∙ long; as_many = refl }
 
-module _ (P : Program) (b starts : List ℕ) (at : Place) (p : ℕ) (seen₀ seen : List ℕ) (s : Looking P b starts at p seen₀ seen) (found : Inside)
+module _ (P : Program) (b starts : List ℕ) (at : Place) (p : ℕ) (seen₀ seen : List RoutineLine) (s : Looking P b starts at p seen₀ seen) (found : Inside)
     (is : InsideIs b at.routine at.base.0 p found) where
   pub pasted_there : {x : Pasted} → found ≡ inside.Stands x → PastedAt P b p x
   unfolding InsideIs
@@ -307,7 +307,7 @@ module _ (P : Program) (b starts : List ℕ) (at : Place) (p : ℕ) (seen₀ see
     in_the_inner = there.in_the_copy
 
     module _ (next : Place) (around : LineAround b inner p next) where
-      pub looks_deeper : (seen' : List ℕ) → length seen' ≡ length seen → Looking P b starts next p seen₀ seen'
+      pub looks_deeper : (seen' : List RoutineLine) → length seen' ≡ length seen → Looking P b starts next p seen₀ seen'
       looks_deeper seen' same =
           record {
             table = s.table;

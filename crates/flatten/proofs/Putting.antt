@@ -14,6 +14,7 @@ use Rattle.scope.specs.Flattening.{most_flat_lines, flat_length, flat_program, b
 use Rattle.scope.proofs.FlatLines.{length_flat_program}
 use Rattle.scope.proofs.FlatBook.{flat_program_fits}
 use Rattle.book.specs.declared.header.Counts.{Counts}
+use Rattle.book.specs.declared.lines.RoutineLine.{RoutineLine}
 use Rattle.book.specs.Told.{instruction_told}
 use Rattle.book.specs.Asked.{TakenWith}
 use Rattle.book.specs.Written.{with_bytes, with_lines}
@@ -24,7 +25,7 @@ use Rattle.flatten.specs.Copies.{CopyWithin, ComesTo, PastedAt}
 use Rattle.flatten.proofs.Pasting.{first_place}
 
 -- The first p flat lines are written, and the next one is where `here` starts.
-pub record WrittenTo (b : List ℕ) (asked n : ℕ) (out₀ seen : List ℕ) (here : Place) (p : ℕ) (out : List ℕ) : Type 0 where
+pub record WrittenTo (b : List ℕ) (asked n : ℕ) (out₀ : List ℕ) (seen : List RoutineLine) (here : Place) (p : ℕ) (out : List ℕ) : Type 0 where
   pub upto : p ≤ n
   pub comes_to : ComesTo (flat_program (book_of b) asked) b here p
   pub a_line_each : length seen ≡ most_routines
@@ -32,7 +33,7 @@ pub record WrittenTo (b : List ℕ) (asked n : ℕ) (out₀ seen : List ℕ) (he
   pub long : length out ≡ length out₀
   pub so_far : out ≡ with_lines out₀ p (flat_program (book_of b) asked)
 
-pub none_written : (b : List ℕ) (asked n : ℕ) (out seen : List ℕ) (here : Place) → CopyWithin b asked 0 → flat_book_bytes n ≤ length out → length seen ≡ most_routines
+pub none_written : (b : List ℕ) (asked n : ℕ) (out : List ℕ) (seen : List RoutineLine) (here : Place) → CopyWithin b asked 0 → flat_book_bytes n ≤ length out → length seen ≡ most_routines
     → here ≡ record { routine = asked; base = record { 0 = 0 }; line = record { 0 = 0 } } → WrittenTo b asked n out seen here 0 out
 none_written b asked n out seen here whole room each e =
     record { upto = omega arith; comes_to = first_place b asked whole here e; a_line_each = each; room = room; long = refl; so_far = no_line_written out _ }
@@ -55,13 +56,13 @@ module _ (b : List ℕ) (c : Counts) (t : TakenWith b c) (asked : ℕ) (whole : 
       let fits = flat_program_fits b t.taken asked few in
       wider _ most_flat_lines _ (omega (arith, few, length_flat_program (book_of b) asked)) (fits.ours.targets_within p _ pasted.stands)
 
-module _ (b : List ℕ) (asked n : ℕ) (out₀ seen : List ℕ) (here : Place) (p : ℕ) (out : List ℕ)
+module _ (b : List ℕ) (asked n : ℕ) (out₀ : List ℕ) (seen : List RoutineLine) (here : Place) (p : ℕ) (out : List ℕ)
     (w : WrittenTo b asked n out₀ seen here p out) (low : p < n) where
   pub line_has_room : flat_book_bytes p + line_bytes ≤ length out
   unfolding flat_book_bytes
   line_has_room = omega (arith, w.room, w.long, low)
 
-  pub one_more_written : (x : Pasted) (out' seen' : List ℕ) → PastedAt (flat_program (book_of b) asked) b p x → length seen' ≡ most_routines → length out' ≡ length out
+  pub one_more_written : (x : Pasted) (out' : List ℕ) (seen' : List RoutineLine) → PastedAt (flat_program (book_of b) asked) b p x → length seen' ≡ most_routines → length out' ≡ length out
       → out' ≡ with_bytes out (flat_book_bytes p) (bytes_of_fields (fields_of (as_line (instruction_told x.instruction))))
       → WrittenTo b asked n out₀ seen' x.behind (p + 1) out'
   unfolding flat_book_bytes
@@ -78,7 +79,7 @@ module _ (b : List ℕ) (asked n : ℕ) (out₀ seen : List ℕ) (here : Place) 
       behind : Has (flat_program (book_of b) asked) p (instruction_told x.instruction) → out' ≡ with_lines out₀ (p + 1) (flat_program (book_of b) asked)
       behind (has stands) = line_written p _ stands out₀ out out' w.so_far (omega (arith, w.room, low)) put
 
-pub all_lines_written : (b : List ℕ) (asked n : ℕ) (out₀ seen : List ℕ) (here : Place) (p : ℕ) (out : List ℕ) → WrittenTo b asked n out₀ seen here p out → n ≤ p
+pub all_lines_written : (b : List ℕ) (asked n : ℕ) (out₀ : List ℕ) (seen : List RoutineLine) (here : Place) (p : ℕ) (out : List ℕ) → WrittenTo b asked n out₀ seen here p out → n ≤ p
     → out ≡ with_lines out₀ n (flat_program (book_of b) asked)
 all_lines_written b asked n out₀ seen here p out w h =
     let end : p ≡ n = omega (arith, h, w.upto) in

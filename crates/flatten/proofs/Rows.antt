@@ -7,7 +7,7 @@ use native.Mathlib.Omega.{arith}
 use native.Mathlib.Decide.{ℕ_discrete}
 use native.Mathlib.Numerals.{add-one}
 use mathlib.Core.Path.{◌≡◌, refl, sym, ◌∙◌, ap}
-use mathlib.Core.Logic.{⊎_elim}
+use mathlib.Core.Logic.{◌⊎◌, ⊎_elim}
 use mathlib.Core.List.{List}
 use lib.ListN.{length, get_or, set, length-set}
 use lib.Seq.{get_or-set_same, get_or-set_other}
@@ -24,7 +24,7 @@ use Rattle.book.specs.declared.lines.Line.TheVariants as line
 use Rattle.book.specs.Told.{line_told}
 use Rattle.book.specs.Asked.{TakenWith, EntryWithin}
 use Rattle.book.proofs.Scanned.{below_R}
-use Rattle.book.proofs.Fits.{holds_of_the_line, CALL_below, REPEAT_below}
+use Rattle.book.proofs.Fits.{holds_of_the_line, CALL_below, REPEAT_below, callee_below}
 use Rattle.flatten.specs.Rows.{length_cap, Known, Row, slot, due, table_length, Filled, Measured, Table, MeasuredAll}
 
 -- ---- a row
@@ -45,25 +45,10 @@ module _ {A : Type 0} (none : A) (Is : ℕ → A → Type 0) (row : List A) wher
       put c low (yes same) = rw (same, get_or-set_same row k a none (omega (arith, h, w.long))) e
       put c low (no other) = rw (get_or-set_other row k c a none other) (w.each c (omega (arith, low, other)))
 
--- A row that is filled up to the asked routine: what is known of those below k.
-pub record KnownTo {A : Type 0} (none : A) (Is : ℕ → A → Type 0) (asked k : ℕ) (row : List A) : Type 0 where
-  pub upto : k ≤ asked + 1
-  pub below : Known none Is k row
-
-module _ {A : Type 0} (none : A) (Is : ℕ → A → Type 0) (asked : ℕ) (row : List A) where
-  pub none_known_yet : length row ≡ most_routines → KnownTo none Is asked 0 row
-  none_known_yet long = record { upto = omega arith; below = empty_row none Is row long }
-
-  module _ (b : List ℕ) (c : Counts) (t : TakenWith b c) (h : asked < c.routines) (k : ℕ) (s : KnownTo none Is asked k row) where
-    pub up_to_the_asked : k ≤ asked → k < c.routines
-    up_to_the_asked g = omega (arith, g, h)
-
-    pub one_more_known : (a : A) → k ≤ asked → Is k a → KnownTo none Is asked (k + 1) (set row k a)
-    one_more_known a g e =
-        record {
-          upto = omega (arith, g);
-          below = one_more_routine none Is row k a s.below (omega (arith, g, h, t.tabled.sized.routines_to_32)) e;
-        }
+  -- .. a routine below another one of the book
+  pub one_more_below : (b : List ℕ) (c : Counts) → TakenWith b c → (r : ℕ) → r < c.routines → (k : ℕ) (a : A) → Known none Is k row → k < r → Is k a
+      → Known none Is (k + 1) (set row k a)
+  one_more_below b c t r h k a w g e = one_more_routine k a w (omega (arith, g, h, t.tabled.sized.routines_to_32)) e
 
 -- Line j of routine k is l, and the row has what is said of the routines below k: so it has what is said of the one that the line uses.
 module _ (b : List ℕ) (c : Counts) (l : Line) (k j : ℕ) (t : TakenWith b c) (h : k < c.routines) (s : j < count b k)
@@ -83,6 +68,9 @@ module _ (b : List ℕ) (c : Counts) (l : Line) (k j : ℕ) (t : TakenWith b c) 
 
     pub REPEAT_in_the_row : {g : Reg} {q : ℕ} → l ≡ line.Repeat g q → q < length row
     REPEAT_in_the_row d = has_a_place none Is row k _ b c t w (omega (arith, REPEAT_below b c l k j t h s e d, h))
+
+    pub callee_in_the_row : {q : ℕ} → (l ≡ line.Call q) ⊎ ((g : Reg) × (l ≡ line.Repeat g q)) → q < length row
+    callee_in_the_row d = has_a_place none Is row k _ b c t w (omega (arith, callee_below b c l k j t h s e d, h))
 
     pub CALL_looked_up : {q : ℕ} → l ≡ line.Call q → Is q (get_or row q none)
     CALL_looked_up d = w.each _ (CALL_below b c l k j t h s e d)

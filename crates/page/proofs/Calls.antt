@@ -1,5 +1,6 @@
 -- What C gets of flattening, of a run and of the quote: the answer field by field, and the bytes of the output or of the registers.
 -- Any other length than 64 is refused as a run is that is lent no registers; with 64 the page's run is a run of the registers that they say. Assumes nothing.
+use Rattle.std.specs.Prelude.{Result, Ok, Err}
 use Prim.Native.Nat.{ℕ}
 use mathlib.Core.Bool.{Bool, true, false}
 use mathlib.Core.Path.{◌≡◌, refl, sym, ◌∙◌, ap}
@@ -15,21 +16,14 @@ use Rattle.scope.specs.Flattening.{flatten_call}
 use Rattle.scope.specs.Running as running
 use Rattle.scope.specs.Quote.{quote_answer}
 use Rattle.scope.specs.Running.{program_of, flat_run, run_verdict, ran, run_call}
-use Rattle.scope.specs.Page.{flatten_fields, page_flatten, registers_length, registers_of, outcome_number, full_register, run_fields, page_run_call, page_run, quote_fields, page_quote}
+use Rattle.scope.specs.Page.{flatten_fields, page_flatten, registers_length, registers_of, run_fields, page_run_call, page_run, quote_fields, page_quote}
 use Rattle.scope.proofs.Verdicts.{if_true, if_false, is_not_tells, then_goes_on, then_refuses, refused_exactly_when, accepted_only_where_passed, call_where_passed, refusal_writes_nothing}
 use Rattle.scope.proofs.Lists.{length_listed}
 use Rattle.book.specs.declared.refusals.Refusal.{Refusal}
-use Rattle.book.specs.Told.{name_told, refusal_told}
-use Rattle.flatten.specs.declared.Flattened.{Flattened}
-use Rattle.flatten.specs.declared.Flattened.TheVariants as flattened
-use Rattle.flatten.specs.Told.{flattened_told}
+use Rattle.book.specs.Told as book
+use Rattle.book.specs.Told.{number_told}
 use Rattle.unit.specs.declared.machine.Answer.{Answer}
-use Rattle.unit.specs.declared.Ran.{Ran}
-use Rattle.unit.specs.declared.Ran.TheVariants.{Done, Refused}
-use Rattle.unit.specs.Told.{outcome_told, answer_told, ran_told}
-use Rattle.quote.specs.declared.Quoted.{Quoted}
-use Rattle.quote.specs.declared.Quoted.TheVariants as quoted
-use Rattle.quote.specs.Told.{quoted_told}
+use Rattle.unit.specs.Told.{ran_told}
 use Rattle.page.specs.declared.answers.FlattenAnswer.{FlattenAnswer}
 use Rattle.page.specs.declared.answers.RunAnswer.{RunAnswer}
 use Rattle.page.specs.declared.answers.QuoteAnswer.{QuoteAnswer}
@@ -37,36 +31,16 @@ use Rattle.page.specs.Told.{flatten_told, run_told, quote_told}
 
 -- ---- flattening
 
-module _ (r : Flattened) where
-  pub flattening_refused : {x : Refusal} (n : ℕ) → r ≡ flattened.Refused x → n ≡ number (name_told x.name)
-      → flatten_told (record { refusal = n; place = x.place; lines = 0 }) ≡ flatten_fields (flattened_told r)
-  unfolding flatten_told flatten_fields flattened_told refusal_told
-  flattening_refused n e f = rw (e, f) refl
-
-  pub flattening_accepted : {n : ℕ} → r ≡ flattened.Flat n
-      → flatten_told (record { refusal = 0; place = 0; lines = n }) ≡ flatten_fields (flattened_told r)
-  unfolding flatten_told flatten_fields flattened_told
-  flattening_accepted e = rw e refl
-
-  pub flattens_for_C : (b : List ℕ) (k : ℕ) (out out' : List ℕ) (a : FlattenAnswer) → record { answer = flattened_told r; left = out' } ≡ flatten_call b k out
-      → flatten_told a ≡ flatten_fields (flattened_told r) → record { fields = flatten_told a; left = out' } ≡ page_flatten b k out
+module _ (r : Result ℕ Refusal) where
+  pub flattens_for_C : (b : List ℕ) (k : ℕ) (out out' : List ℕ) (a : FlattenAnswer) → record { answer = number_told r; left = out' } ≡ flatten_call b k out
+      → flatten_told a ≡ flatten_fields (number_told r) → record { fields = flatten_told a; left = out' } ≡ page_flatten b k out
   unfolding page_flatten
   flattens_for_C b k out out' a told fields =
       (λ i. record { fields = fields i; left = out' }) ∙ ap (λ c. record { fields = flatten_fields c.answer; left = c.left }) told
 
 -- ---- the fields of a run
 
-module _ (r : Ran) where
-  pub fields_refused : {x : Refusal} (n : ℕ) → r ≡ Refused x → n ≡ number (name_told x.name)
-      → run_told (record { refusal = n; place = x.place; outcome = 0; register = 0; steps = 0; line = 0 }) ≡ run_fields (ran_told r)
-  unfolding run_told run_fields ran_told refusal_told
-  fields_refused n e f = rw (e, f) refl
-
-  pub fields_done : {a : Answer} (o g : ℕ) → r ≡ Done a → o ≡ outcome_number (outcome_told a.outcome) → g ≡ full_register (outcome_told a.outcome)
-      → run_told (record { refusal = 0; place = 0; outcome = o; register = g; steps = a.steps; line = a.line.0 }) ≡ run_fields (ran_told r)
-  unfolding run_told run_fields ran_told answer_told
-  fields_done o g e f h = rw (e, f, h) refl
-
+module _ (r : Result Answer Refusal) where
   pub fields_of_the_call : (c : Call running.Ran Registers) (rs' : Registers) (a : RunAnswer) → record { answer = ran_told r; left = rs' } ≡ c
       → run_told a ≡ run_fields (ran_told r) → run_told a ≡ run_fields c.answer
   fields_of_the_call c rs' a told fields = fields ∙ ap (λ d. run_fields d.answer) told
@@ -103,7 +77,7 @@ module _ (b bytes : List ℕ) (start budget : ℕ) where
       (refusal_writes_nothing _ _ bytes (ap (λ t. run_verdict b t start) wrong ∙ v))
       (e ∙ ap (λ c. run_fields c.answer) (refusal_writes_nothing _ _ [] v))
 
-  module _ (h : length bytes ≡ registers_length) (rs : Registers) (said : rs ≡ registers_of bytes) (r : Ran) (rs' : Registers)
+  module _ (h : length bytes ≡ registers_length) (rs : Registers) (said : rs ≡ registers_of bytes) (r : Result Answer Refusal) (rs' : Registers)
       (told : record { answer = ran_told r; left = rs' } ≡ run_call b start rs budget)
       (a : RunAnswer) (fields : run_told a ≡ run_fields (ran_told r)) where
     abbrev ended : End ℕ
@@ -123,16 +97,16 @@ module _ (b bytes : List ℕ) (start budget : ℕ) where
     unfolding call_of
     answered = ap (λ c. c.answer) ran_so
 
-    pub run_is_refused : {x : Refusal} → r ≡ Refused x → record { fields = run_told a; left = bytes } ≡ page_run b start bytes budget
-    unfolding page_run_call ran_told
+    pub run_is_refused : {x : Refusal} → r ≡ Err x → record { fields = run_told a; left = bytes } ≡ page_run b start bytes budget
+    unfolding page_run_call book.answer_told
     run_is_refused e =
         gets a
         (refusal_writes_nothing _ _ bytes ((refused_exactly_when _ _ _).0 (sym answered ∙ ap ran_told e)))
         (fields ∙ ap (λ y. run_fields (ran_told y)) e)
 
-    pub run_is_done : {d : Answer} (bytes' : List ℕ) → r ≡ Done d → bytes' ≡ two_bytes_each rs'
+    pub run_is_done : {d : Answer} (bytes' : List ℕ) → r ≡ Ok d → bytes' ≡ two_bytes_each rs'
         → record { fields = run_told a; left = bytes' } ≡ page_run b start bytes budget
-    unfolding page_run_call ran_told
+    unfolding page_run_call book.answer_told
     run_is_done bytes' e put =
         let (passes, same) = accepted_only_where_passed verdict (sym answered ∙ ap ran_told e) in
         let kept : rs' ≡ ended.registers = ap (λ c. c.left) (ran_so ∙ call_where_passed _ _ _ passes) in
@@ -141,17 +115,8 @@ module _ (b bytes : List ℕ) (start budget : ℕ) where
 
 -- ---- the quote
 
-module _ (r : Quoted) where
-  pub quote_refused : {x : Refusal} (n : ℕ) → r ≡ quoted.Refused x → n ≡ number (name_told x.name)
-      → quote_told (record { refusal = n; place = x.place; quote = 0 }) ≡ quote_fields (quoted_told r)
-  unfolding quote_told quote_fields quoted_told refusal_told
-  quote_refused n e f = rw (e, f) refl
-
-  pub quote_accepted : {n : ℕ} → r ≡ quoted.Steps n → quote_told (record { refusal = 0; place = 0; quote = n }) ≡ quote_fields (quoted_told r)
-  unfolding quote_told quote_fields quoted_told
-  quote_accepted e = rw e refl
-
-  pub quotes_for_C : (b : List ℕ) (k : ℕ) (a : QuoteAnswer) → quoted_told r ≡ quote_answer b k → quote_told a ≡ quote_fields (quoted_told r)
+module _ (r : Result ℕ Refusal) where
+  pub quotes_for_C : (b : List ℕ) (k : ℕ) (a : QuoteAnswer) → number_told r ≡ quote_answer b k → quote_told a ≡ quote_fields (number_told r)
       → quote_told a ≡ page_quote b k
   unfolding page_quote
   quotes_for_C b k a told fields = fields ∙ ap quote_fields told

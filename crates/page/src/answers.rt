@@ -1,20 +1,16 @@
-// How each answer is laid out for C, field by field.
+// How each answer is laid out for C, field by field. C has no enums with values: so a refusal and an outcome are numbers here.
 ghost use Rattle.std.specs.Prelude.{◌≡◌};
 ghost use Rattle.scope.specs.Page.{flatten_fields, outcome_number, full_register, run_fields, quote_fields};
-ghost use Rattle.flatten.specs.Told.{flattened_told};
+ghost use Rattle.book.specs.Told.{number_told};
 ghost use Rattle.unit.specs.Told.{outcome_told, ran_told};
-ghost use Rattle.quote.specs.Told.{quoted_told};
 ghost use Rattle.page.specs.Told.{flatten_told, run_told, quote_told};
 
-use book::refusals::number;
-use flatten::Flattened;
-use quote::Quoted;
-use unit::Ran;
-use unit::machine::Outcome;
+use book::refusals::{Refusal, number};
+use unit::machine::{Answer, Outcome};
 
 // The refusal's number is 0 where the call is accepted. Where it is refused, the fields of its values are 0.
 #[repr(C)]
-#[derive(Clone, Copy)]
+#[derive(Clone, Copy, Debug, PartialEq, Eq)]
 pub struct FlattenAnswer {
     pub refusal: u16,
     pub place: u16,
@@ -22,7 +18,7 @@ pub struct FlattenAnswer {
 }
 
 #[repr(C)]
-#[derive(Clone, Copy)]
+#[derive(Clone, Copy, Debug, PartialEq, Eq)]
 pub struct RunAnswer {
     pub refusal: u16,
     pub place: u16,
@@ -33,7 +29,7 @@ pub struct RunAnswer {
 }
 
 #[repr(C)]
-#[derive(Clone, Copy)]
+#[derive(Clone, Copy, Debug, PartialEq, Eq)]
 pub struct QuoteAnswer {
     pub refusal: u16,
     pub place: u16,
@@ -41,96 +37,93 @@ pub struct QuoteAnswer {
 }
 
 // Flattening's answer.
-pub(crate) fn flatten_fields(flattened: Flattened) -> FlattenAnswer
-    ensures { flatten_told result ≡ flatten_fields (flattened_told flattened) }
-{
-    match flattened {
-        Flattened::Refused(x) => {
-            let name = x.name;
-            FlattenAnswer {
-                refusal: number(name),
+impl From<Result<usize, Refusal>> for FlattenAnswer {
+    ghost from_gives = { λ flattened fields. flatten_told fields ≡ flatten_fields (number_told flattened) };
+
+    #[tactic(auto, unfolding(crate::specs::Told::flatten_told, scope::specs::Page::flatten_fields, book::specs::Told::answer_told, book::specs::Told::refusal_told))]
+    fn from(flattened: Result<usize, Refusal>) -> FlattenAnswer {
+        match flattened {
+            Err(x) => FlattenAnswer {
+                refusal: number(x.name),
                 place: x.place,
                 lines: 0,
-            }
+            },
+            Ok(lines) => FlattenAnswer {
+                refusal: 0,
+                place: 0,
+                lines,
+            },
         }
-        Flattened::Flat(n) => FlattenAnswer {
-            refusal: 0,
-            place: 0,
-            lines: n,
-        },
     }
 }
 
 // The outcome's number for C; 0 is left for a refused call.
+#[tactic(auto, unfolding(scope::specs::Page::outcome_number, unit::specs::Told::outcome_told))]
 fn outcome_number(o: Outcome) -> u16
     ensures { result ≡ outcome_number (outcome_told o) }
 {
     match o {
         Outcome::Finished => 1,
         Outcome::OutOfSteps => 2,
-        Outcome::Full(_r) => 3,
+        Outcome::Full(_) => 3,
     }
 }
 
 // The full register where the outcome is FULL, else 0.
+#[tactic(auto, unfolding(scope::specs::Page::full_register, unit::specs::Told::outcome_told))]
 fn full_register(o: Outcome) -> u16
     ensures { result ≡ full_register (outcome_told o) }
 {
     match o {
-        Outcome::Finished => 0,
-        Outcome::OutOfSteps => 0,
-        Outcome::Full(r) => r.0 as u16,
+        Outcome::Finished | Outcome::OutOfSteps => 0,
+        Outcome::Full(r) => u16::from(r.0),
     }
 }
 
 // A run's answer.
-pub(crate) fn run_fields(ran: Ran) -> RunAnswer
-    ensures { run_told result ≡ run_fields (ran_told ran) }
-{
-    match ran {
-        Ran::Refused(x) => {
-            let name = x.name;
-            RunAnswer {
-                refusal: number(name),
+impl From<Result<Answer, Refusal>> for RunAnswer {
+    ghost from_gives = { λ ran fields. run_told fields ≡ run_fields (ran_told ran) };
+
+    #[tactic(auto, unfolding(crate::specs::Told::run_told, scope::specs::Page::run_fields, unit::specs::Told::answer_told, book::specs::Told::answer_told, book::specs::Told::refusal_told))]
+    fn from(ran: Result<Answer, Refusal>) -> RunAnswer {
+        match ran {
+            Err(x) => RunAnswer {
+                refusal: number(x.name),
                 place: x.place,
                 outcome: 0,
                 register: 0,
                 steps: 0,
                 line: 0,
-            }
-        }
-        Ran::Done(a) => {
-            let outcome = a.outcome;
-            let line = a.line;
-            RunAnswer {
+            },
+            Ok(a) => RunAnswer {
                 refusal: 0,
                 place: 0,
-                outcome: outcome_number(outcome),
-                register: full_register(outcome),
+                outcome: outcome_number(a.outcome),
+                register: full_register(a.outcome),
                 steps: a.steps,
-                line: line.0,
-            }
+                line: a.line.0,
+            },
         }
     }
 }
 
 // The quote's answer.
-pub(crate) fn quote_fields(quoted: Quoted) -> QuoteAnswer
-    ensures { quote_told result ≡ quote_fields (quoted_told quoted) }
-{
-    match quoted {
-        Quoted::Refused(x) => {
-            let name = x.name;
-            QuoteAnswer {
-                refusal: number(name),
+impl From<Result<u64, Refusal>> for QuoteAnswer {
+    ghost from_gives = { λ quoted fields. quote_told fields ≡ quote_fields (number_told quoted) };
+
+    #[tactic(auto, unfolding(crate::specs::Told::quote_told, scope::specs::Page::quote_fields, book::specs::Told::answer_told, book::specs::Told::refusal_told))]
+    fn from(quoted: Result<u64, Refusal>) -> QuoteAnswer {
+        match quoted {
+            Err(x) => QuoteAnswer {
+                refusal: number(x.name),
                 place: x.place,
                 quote: 0,
-            }
+            },
+            Ok(quote) => QuoteAnswer {
+                refusal: 0,
+                place: 0,
+                quote,
+            },
         }
-        Quoted::Steps(n) => QuoteAnswer {
-            refusal: 0,
-            place: 0,
-            quote: n,
-        },
     }
 }

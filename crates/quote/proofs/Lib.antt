@@ -1,10 +1,8 @@
 -- The laws that the proofs of the functions cite. A function's own proof stands under its module and name.
 pub mod Bits
 pub mod Masks
-pub mod Keeping
 pub mod Looks
 pub mod Steadiness
 pub mod Answers
 -- what callers have
-pub mod Told
 pub mod Unique

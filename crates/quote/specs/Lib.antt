@@ -1,5 +1,4 @@
 -- What the contracts of the quote cite, besides document 01's own definitions in `scope`.
-pub mod Told
 -- of its private functions
 pub mod Naming
 pub mod Sums

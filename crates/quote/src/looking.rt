@@ -1,58 +1,62 @@
-// One look at the lines of a routine: how long it is, which registers it names, and what it quotes.
+// One look at the lines of each routine: how long it is, which registers it names, and what it quotes.
 ghost use Rattle.std.specs.Prelude.{◌<◌};
-ghost use Rattle.book.specs.Asked.{TakenWith};
 ghost use Rattle.quote.specs.Looked.{LookedAt, LookedBelow};
 
 use super::naming::line_mask;
-use super::sums::{Sum, added, line_quote};
-use book::header::Counts;
+use super::sums::{added, line_quote};
 use book::lines::RoutineLine;
-use book::table::count;
-use flatten::lengths::next_start;
+use book::reader::Book;
+use flatten::lengths::{ROW, next_start};
 
-// What a look tells. The length stops at 4,097, as in flattening; the number is the quote where it is not over.
+// What a look tells. The length stops at 4,097, as in flattening; there is a quote where 64 bits hold it.
 #[derive(Clone, Copy)]
-pub(crate) struct Looked {
-    pub(crate) length: u32,
-    pub(crate) mask: u32,
-    pub(crate) number: u64,
-    pub(crate) over: bool,
+struct Looked {
+    length: u32,
+    mask: u32,
+    quote: Option<u64>,
 }
 
-// A routine the sum of its lines. What it uses stands in the rows.
-pub(crate) fn look(
-    b: &[u8],
-    counts: Counts,
-    k: u16,
-    lengths: &[u32],
-    masks: &[u32],
-    numbers: &[u64],
-    overs: &[bool],
-) -> Looked
-    requires taken_with { TakenWith b.now counts }
-    requires k_lt_routines { k < counts.routines }
-    requires looked_below { LookedBelow b.now k lengths.now masks.now numbers.now overs.now }
-    ensures { LookedAt b.now k result }
-{
-    let n = count(b, k);
-    let mut length: u32 = 0;
-    let mut mask: u32 = 0;
-    let mut sum = Sum {
-        number: 0,
-        over: false,
-    };
-    let mut j: u16 = 0;
-    while j < n {
-        let line = RoutineLine(j);
-        length = next_start(b, counts, k, line, lengths, length);
-        mask = mask | line_mask(b, counts, k, line, masks);
-        sum = added(sum, line_quote(b, counts, k, line, numbers, overs));
-        j += 1;
+// What the looks told, a row for each part: flattening reads the lengths alone.
+#[derive(Drop)]
+pub(crate) struct Looks {
+    pub(crate) lengths: [u32; ROW],
+    pub(crate) masks: [u32; ROW],
+    pub(crate) quotes: [Option<u64>; ROW],
+}
+
+impl Looks {
+    // A routine the sum of its lines. What it uses stands in the rows.
+    fn look(&self, b: &Book, k: u16) -> Looked
+        requires k_lt_routines { k < b.now.counts.routines }
+        requires looked_below { LookedBelow b.now.bytes.now k self.now }
+        ensures { LookedAt b.now.bytes.now k result }
+    {
+        let mut length: u32 = 0;
+        let mut mask: u32 = 0;
+        let mut quote = Some(0);
+        for j in 0..b.count(k) {
+            let line = RoutineLine(j);
+            length = next_start(b, k, line, &self.lengths, length);
+            mask |= line_mask(b, k, line, &self.masks);
+            quote = added(quote, line_quote(b, k, line, &self.quotes));
+        }
+        Looked {
+            length,
+            mask,
+            quote,
+        }
     }
-    Looked {
-        length: length,
-        mask: mask,
-        number: sum.number,
-        over: sum.over,
+
+    // Looks at every routine of a taken book, from the lowest up. The rows are the caller's, since what is returned is copied: zn_quote has a
+    // small stack.
+    pub(crate) fn fill(&mut self, b: &Book)
+        ensures { LookedBelow b.now.bytes.now b.now.counts.routines self.new }
+    {
+        for k in 0..b.counts.routines {
+            let x = self.look(b, k);
+            self.lengths[k as usize] = x.length;
+            self.masks[k as usize] = x.mask;
+            self.quotes[k as usize] = x.quote;
+        }
     }
 }

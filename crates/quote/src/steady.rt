@@ -2,94 +2,82 @@
 ghost use Rattle.std.specs.Prelude.{◌≡◌, ◌<◌};
 ghost use Rattle.scope.specs.Book.{count, line_of, fields_in, book_of};
 ghost use Rattle.scope.specs.Quote.{named, line_steady, steady};
-ghost use Rattle.book.specs.Asked.{TakenWith};
 ghost use Rattle.quote.specs.Naming.{Masks};
 ghost use Rattle.quote.specs.Steadiness.{Tested};
 
 use super::naming::has;
-use book::header::Counts;
-use book::lines::{Line, RoutineLine, line_at};
-use book::table::count;
+use book::lines::{Line, RoutineLine};
+use book::reader::Book;
 use flatten::lengths::ROW;
 
-// A DEC or GO TO line is steady if its target is above its own number. A line that calls is steady if the routine is. A REPEAT line also
-// needs that its register is not named in the repeated routine or in any routine used under it. INC is always steady.
-#[cycle(line_steady_routine_steady)]
-fn line_steady(
-    b: &[u8],
-    counts: Counts,
-    masks: &[u32],
-    tested: &[bool],
+// What a test goes by: a taken book, which registers each routine names, and the answers for the routines below the mark.
+#[derive(Clone, Copy)]
+struct Tests<'a> {
+    book: Book<'a>,
+    masks: &'a [u32],
+    tested: &'a [bool],
     mark: u16,
-    k: u16,
-    j: RoutineLine,
-) -> bool
-    requires taken_with { TakenWith b.now counts }
-    requires masks { Masks b.now counts.routines masks.now }
-    requires tested { Tested b.now mark tested.now }
-    requires k_lt_routines { k < counts.routines }
-    requires j_bound { j.0 < count b.now k }
-    ensures { result ≡ line_steady (named (book_of b.now)) (steady (book_of b.now)) j.0 (line_of (fields_in b.now k j.0)) }
-{
-    let line = line_at(b, counts, k, j);
-    match line {
-        Line::Inc(_) => true,
-        Line::Dec(_, t) => j.0 < t.0,
-        Line::GoTo(t) => j.0 < t.0,
-        Line::Call(c) => routine_steady(b, counts, masks, tested, mark, c),
-        Line::Repeat(r, c) => {
-            if has(masks[c as usize], r) {
-                return false;
-            }
-            routine_steady(b, counts, masks, tested, mark, c)
-        }
-    }
+    ghost masks_are: { Masks book.bytes.now book.counts.routines masks.now },
+    ghost tested_are: { Tested book.bytes.now mark tested.now },
 }
 
-// A routine is steady if its lines are. One below the mark is in the row. From here to a line and on to the routine that it uses the
-// number falls; in the loop the lines left.
-#[cycle(line_steady_routine_steady)]
-fn routine_steady(
-    b: &[u8],
-    counts: Counts,
-    masks: &[u32],
-    tested: &[bool],
-    mark: u16,
-    k: u16,
-) -> bool
-    requires taken_with { TakenWith b.now counts }
-    requires masks { Masks b.now counts.routines masks.now }
-    requires tested { Tested b.now mark tested.now }
-    requires k_lt_routines { k < counts.routines }
-    ensures { result ≡ steady (book_of b.now) k }
-{
-    if k < mark {
-        return tested[k as usize];
-    }
-    let n = count(b, k);
-    let mut j: u16 = 0;
-    while j < n {
-        if !line_steady(b, counts, masks, tested, mark, k, RoutineLine(j)) {
-            return false;
+impl Tests<'_> {
+    // A DEC or GO TO line is steady if its target is above its own number. A line that calls is steady if the routine is. A REPEAT line also
+    // needs that its register is not named in the repeated routine or in any routine used under it. INC is always steady.
+    #[cycle(steadiness)]
+    #[tactic(auto, using(std::proofs::lemmas::Bool::Decides::nat_tests), unfolding(scope::specs::Quote::line_steady, book::specs::Told::line_told))]
+    fn line_steady(&self, k: u16, j: RoutineLine) -> bool
+        requires k_lt_routines { k < self.now.book.counts.routines }
+        requires j_bound { j.0 < count self.now.book.bytes.now k }
+        ensures { result ≡ line_steady (named (book_of self.now.book.bytes.now)) (steady (book_of self.now.book.bytes.now)) j.0 (line_of (fields_in self.now.book.bytes.now k j.0)) }
+    {
+        match self.book.line_at(k, j) {
+            Line::Inc(_) => true,
+            Line::Dec(_, t) | Line::GoTo(t) => j.0 < t.0,
+            Line::Call(c) => self.routine_steady(c),
+            Line::Repeat(r, c) => {
+                if has(self.masks[c as usize], r) {
+                    return false;
+                }
+                self.routine_steady(c)
+            }
         }
-        j += 1;
     }
-    true
+
+    // A routine is steady if its lines are. One below the mark is in the row. From here to a line and on to the routine that it uses the
+    // number falls; in the loop the lines left.
+    #[cycle(steadiness)]
+    fn routine_steady(&self, k: u16) -> bool
+        requires { k < self.now.book.counts.routines }
+        ensures { result ≡ steady (book_of self.now.book.bytes.now) k }
+    {
+        if k < self.mark {
+            return self.tested[k as usize];
+        }
+        for j in 0..self.book.count(k) {
+            if !self.line_steady(k, RoutineLine(j)) {
+                return false;
+            }
+        }
+        true
+    }
 }
 
 // The test, over a row from the lowest routine up to the asked one.
-pub(crate) fn is_steady(b: &[u8], counts: Counts, masks: &[u32], routine: u16) -> bool
-    requires taken_with { TakenWith b.now counts }
-    requires masks { Masks b.now counts.routines masks.now }
-    requires routine_lt_routines { routine < counts.routines }
-    ensures { result ≡ steady (book_of b.now) routine }
+pub(crate) fn is_steady(b: &Book, masks: &[u32], routine: u16) -> bool
+    requires masks { Masks b.now.bytes.now b.now.counts.routines masks.now }
+    requires routine_lt_routines { routine < b.now.counts.routines }
+    ensures { result ≡ steady (book_of b.now.bytes.now) routine }
 {
     let mut tested = [false; ROW];
-    let mut k: u16 = 0;
-    while k <= routine {
-        let answer = routine_steady(b, counts, masks, &tested, k, k);
-        tested[k as usize] = answer;
-        k += 1;
+    for k in 0..=routine {
+        let below = Tests {
+            book: *b,
+            masks,
+            tested: &tested,
+            mark: k,
+        };
+        tested[k as usize] = below.routine_steady(k);
     }
     tested[routine as usize]
 }

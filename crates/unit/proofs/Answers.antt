@@ -1,5 +1,6 @@
 -- The answers of a run and of a bench step: one law for each way out.
 -- A test that finds its fault gives the call's refusal; where all pass, the call answers how the run of the book's program ends. Assumes nothing.
+use Rattle.std.specs.Prelude.{Result, Ok, Err}
 use Prim.Native.Nat.{ℕ, ◌<◌, ◌≤◌}
 use mathlib.Core.Path.{◌≡◌, refl, sym, ◌∙◌, ap}
 use mathlib.Core.Logic.{◌≢◌}
@@ -8,7 +9,7 @@ use lib.ListN.{length}
 use Rattle.scope.specs.Words.{◌is_not◌, ◌above◌, if}
 use Rattle.scope.specs.Refusals as paper
 use Rattle.scope.specs.Refusals.{NOT_FLAT, REGISTERS, LINE, refuse, refusal, accepted, call_of, answer_of, ◌and_then◌}
-use Rattle.scope.specs.Book.{routines, lines, book_verdict, check_answer}
+use Rattle.scope.specs.Book.{Counts, routines, lines, book_verdict, check_answer}
 use Rattle.scope.specs.Steps.{register_count, Registers, End}
 use Rattle.scope.specs.Running.{program_of, flat_run, run_verdict, ran, run_call, state, bench_verdict, bench_call}
 use Rattle.scope.specs.GivenByCalls.{GivenRunning, running_the_book, running_NOT_FLAT, running_REGISTERS, running_LINE}
@@ -16,16 +17,13 @@ use Rattle.scope.proofs.Verdicts.{no_fault, is_not_tells, goes_on, accepted_only
 use Rattle.scope.proofs.GivenExactlyWhen.{given_exactly_when}
 use Rattle.scope.proofs.GivenByCalls.{running_passes}
 use Rattle.scope.proofs.Answers.{run_refused_exactly}
-use Rattle.book.specs.declared.header.Counts.{Counts}
+use Rattle.book.specs.declared.header.Counts as header
 use Rattle.book.specs.declared.refusals.Refusal.{Refusal}
-use Rattle.book.specs.declared.Checked.{Checked}
-use Rattle.book.specs.declared.Checked.TheVariants as checked
-use Rattle.book.specs.Told.{refusal_told, check_told}
+use Rattle.book.specs.Told as book
+use Rattle.book.specs.Told.{refusal_told}
 use Rattle.book.specs.Asked.{TakenWith}
 use Rattle.book.proofs.Answers.{checked_refused}
 use Rattle.unit.specs.declared.machine.Answer.{Answer}
-use Rattle.unit.specs.declared.Ran.{Ran}
-use Rattle.unit.specs.declared.Ran.TheVariants.{Done, Refused}
 use Rattle.unit.specs.declared.State.{State}
 use Rattle.unit.specs.Told.{end_told, answer_told, ran_told, state_told}
 
@@ -33,17 +31,17 @@ use Rattle.unit.specs.Told.{end_told, answer_told, ran_told, state_told}
 
 module _ (b : List ℕ) (start budget : ℕ) (rs : Registers) where
   refused_with : (x : Refusal) {y : paper.Refusal} → refusal_told x ≡ y → GivenRunning b (length rs ≢ register_count) start y
-      → record { answer = ran_told (Refused x); left = rs } ≡ run_call b start rs budget
-  unfolding ran_told
+      → record { answer = ran_told (Err x); left = rs } ≡ run_call b start rs budget
+  unfolding book.answer_told
   refused_with x s g = rw s (sym ((run_refused_exactly b start rs budget _).1 g))
 
-  pub book_refused : (k : Checked) {x : Refusal} → check_told k ≡ check_answer b → k ≡ checked.Refused x
-      → record { answer = ran_told (Refused x); left = rs } ≡ run_call b start rs budget
-  book_refused k {x} s e = refused_with x refl (running_the_book ((given_exactly_when b _).0 (checked_refused b k s e)))
+  pub book_refused : {A : Type 0} (told : A → Counts) (k : Result A Refusal) {x : Refusal} → book.answer_told told k ≡ check_answer b → k ≡ Err x
+      → record { answer = ran_told (Err x); left = rs } ≡ run_call b start rs budget
+  book_refused told k {x} s e = refused_with x refl (running_the_book ((given_exactly_when b _).0 (checked_refused b told k s e)))
 
-  module _ (c : Counts) (t : TakenWith b c) where
+  module _ (c : header.Counts) (t : TakenWith b c) where
     pub not_flat : (x : Refusal) → refusal_told x ≡ refusal NOT_FLAT 0 → 1 < c.routines
-        → record { answer = ran_told (Refused x); left = rs } ≡ run_call b start rs budget
+        → record { answer = ran_told (Err x); left = rs } ≡ run_call b start rs budget
     not_flat x s h = refused_with x s (running_NOT_FLAT t.taken (rw (sym t.tabled.sized.counts.routines_are) h))
 
     module _ (one : c.routines ≤ 1) where
@@ -51,7 +49,7 @@ module _ (b : List ℕ) (start budget : ℕ) (rs : Registers) where
       flat = rw (sym t.tabled.sized.counts.routines_are) one
 
       pub not_32_registers : (x : Refusal) → refusal_told x ≡ refusal REGISTERS 0 → length rs ≢ register_count
-          → record { answer = ran_told (Refused x); left = rs } ≡ run_call b start rs budget
+          → record { answer = ran_told (Err x); left = rs } ≡ run_call b start rs budget
       not_32_registers x s h = refused_with x s (running_REGISTERS t.taken flat h)
 
       module _ (long : length rs ≡ register_count) (n : ℕ) (size : n ≡ c.lines) where
@@ -59,12 +57,12 @@ module _ (b : List ℕ) (start budget : ℕ) (rs : Registers) where
         same_n = size ∙ t.tabled.sized.counts.lines_are
 
         pub line_past_the_end : (x : Refusal) → refusal_told x ≡ refusal LINE 0 → n < start
-            → record { answer = ran_told (Refused x); left = rs } ≡ run_call b start rs budget
+            → record { answer = ran_told (Err x); left = rs } ≡ run_call b start rs budget
         line_past_the_end x s h = refused_with x s (running_LINE t.taken flat (λ w. w long) (rw (sym same_n) h))
 
         pub run_answers : (a : Answer) (rs' : Registers) → start ≤ n → end_told a rs' ≡ flat_run (program_of b) start budget rs
-            → record { answer = ran_told (Done a); left = rs' } ≡ run_call b start rs budget
-        unfolding ran_told answer_told end_told run_call ran
+            → record { answer = ran_told (Ok a); left = rs' } ≡ run_call b start rs budget
+        unfolding book.answer_told answer_told end_told run_call ran
         run_answers a rs' h e =
             ap (λ (f : End ℕ). record { answer = accepted (ran f); left = f.registers }) e
             ∙ sym (call_where_passed _ _ rs (running_passes b start (no_fault (is_not_tells (length rs) register_count)) t.taken flat (λ w. w long) (rw (sym same_n) h)))
@@ -78,7 +76,7 @@ module _ (b : List ℕ) (line : ℕ) (rs : Registers) (long : length rs ≡ regi
   tested_alike =
       ap (λ v. book_verdict b and_then if (routines b above 1) (refuse (refusal NOT_FLAT 0)) v) (goes_on _ _ (is_not_tells (length rs) register_count) long)
 
-module _ (b : List ℕ) (s : State) (r : Ran) (rs' : Registers)
+module _ (b : List ℕ) (s : State) (r : Result Answer Refusal) (rs' : Registers)
     (told : record { answer = ran_told r; left = rs' } ≡ run_call b s.line.0 s.regs 1)
     (now_32 : length rs' ≡ register_count) (as_many : length rs' ≡ length s.regs) where
   long : length s.regs ≡ register_count
@@ -92,15 +90,16 @@ module _ (b : List ℕ) (s : State) (r : Ran) (rs' : Registers)
   answered =
       ap (λ c. c.answer) told ∙ ap (λ v. answer_of v (ran ended)) (tested_alike b s.line.0 s.regs long)
 
-  pub step_refused : {x : Refusal} → r ≡ Refused x
-      → record { answer = ran_told (Refused x); left = state_told s } ≡ bench_call b (state_told s)
-  unfolding ran_told bench_call state_told
+  pub step_refused : {x : Refusal} → r ≡ Err x
+      → record { answer = ran_told r; left = state_told s } ≡ bench_call b (state_told s)
+  unfolding book.answer_told bench_call state_told
   step_refused e =
-      sym (refusal_writes_nothing _ _ (state_told s) ((refused_exactly_when _ _ _).0 (sym answered ∙ ap ran_told e)))
+      ap (λ q. record { answer = ran_told q; left = state_told s }) e
+      ∙ sym (refusal_writes_nothing _ _ (state_told s) ((refused_exactly_when _ _ _).0 (sym answered ∙ ap ran_told e)))
 
-  pub step_made : {a : Answer} → r ≡ Done a
-      → record { answer = ran_told (Done a); left = state_told (record { line = a.line; regs = rs' }) } ≡ bench_call b (state_told s)
-  unfolding ran_told answer_told bench_call state_told state ran run_call
+  pub step_made : {a : Answer} → r ≡ Ok a
+      → record { answer = ran_told (Ok a); left = state_told (record { line = a.line; regs = rs' }) } ≡ bench_call b (state_told s)
+  unfolding book.answer_told answer_told bench_call state_told state ran run_call
   step_made {a} e =
       let (passes, same) = accepted_only_where_passed (bench_verdict b s.line.0) (sym answered ∙ ap ran_told e) in
       let runs = tested_alike b s.line.0 s.regs long ∙ passes in

@@ -3,11 +3,10 @@
 use Prim.Native.Nat.{ℕ, ◌+◌, ◌*◌, ◌<◌, ◌≤◌, ◌/◌, ◌%◌}
 use native.Mathlib.Omega.{arith}
 use native.Mathlib.Decide.{ℕ_discrete}
-use native.Mathlib.Numerals.{add-one}
-use mathlib.Core.Path.{◌≡◌, refl, sym, ◌∙◌}
+use mathlib.Core.Path.{◌≡◌, refl, sym, ◌∙◌, ap}
 use mathlib.Core.List.{List, [], ◌∷◌}
 use lib.ListN.{length, take, get_or, set, length-set}
-use lib.Seq.{length-take-le, take_all, drop-cons, get_or-set_same, get_or-set_other, sets-eq}
+use lib.Seq.{length-take-le, take_all, drop-cons, get_or-set_same, get_or-set_other}
 use Rattle.scope.specs.Book.{two_byte, two_bytes, two_bytes_each}
 use Rattle.scope.specs.Steps.{register_count, Registers}
 use Rattle.scope.specs.Page.{registers_length, registers_of}
@@ -47,11 +46,6 @@ all_read bytes j regs r h =
 
 -- ---- writing
 
-pub two_stored : (out : List ℕ) (at n m k : ℕ) → m ≡ n % 256 → k ≡ n / 256 % 256 → at + 2 ≤ length out
-    → set (set out at m) (at + 1) k ≡ with_bytes out at (two_bytes n)
-unfolding with_bytes two_bytes
-two_stored out at n m k low high h = rw (add-one at, low, high) (sets-eq _ out at h)
-
 two_for_each : (rs : Registers) → length (two_bytes_each rs) ≡ 2 * length rs
 unfolding two_bytes_each two_bytes
 two_for_each [] = refl
@@ -59,30 +53,28 @@ two_for_each (r ∷ rs) = omega (arith, two_for_each rs)
 
 -- The first j are written.
 pub record WrittenTo (regs : Registers) (bytes₀ : List ℕ) (j : ℕ) (bytes : List ℕ) : Type 0 where
-  pub long : length bytes ≡ registers_length
   pub upto : j ≤ register_count
   pub front : bytes ≡ with_bytes bytes₀ 0 (two_bytes_each (take j regs))
 
-pub none_written : (regs : Registers) (bytes₀ : List ℕ) → length bytes₀ ≡ registers_length → WrittenTo regs bytes₀ 0 bytes₀
+pub none_written : (regs : Registers) (bytes₀ : List ℕ) → WrittenTo regs bytes₀ 0 bytes₀
 unfolding two_bytes_each
-none_written regs bytes₀ long = record { long = long; upto = omega arith; front = nothing_written bytes₀ 0 }
+none_written regs bytes₀ = record { upto = omega arith; front = nothing_written bytes₀ 0 }
 
 module _ (regs : Registers) (many : length regs ≡ register_count) (bytes₀ : List ℕ) (given : length bytes₀ ≡ registers_length) (j : ℕ) (bytes : List ℕ)
     (w : WrittenTo regs bytes₀ j bytes) where
-  pub one_more_written : (bytes' : List ℕ) → j < register_count → length bytes' ≡ length bytes
-      → bytes' ≡ with_bytes bytes (2 * j) (two_bytes (get_or regs j 0)) → WrittenTo regs bytes₀ (j + 1) bytes'
-  unfolding two_bytes_each
-  one_more_written bytes' h same put =
-      let size = length-take-le j regs (omega arith) in
+  pub one_more_written : (two bytes' : List ℕ) → j < length regs → two ≡ get_or regs j 0 % 256 ∷ get_or regs j 0 / 256 % 256 ∷ []
+      → bytes' ≡ with_bytes bytes (2 * j) two → WrittenTo regs bytes₀ (j + 1) bytes'
+  unfolding two_bytes_each two_bytes
+  one_more_written two bytes' h same put =
+      let size = length-take-le j regs (omega (arith, h)) in
       record {
-        long = same ∙ w.long;
-        upto = omega arith;
+        upto = omega (arith, h, many);
         front =
-            piece_written two_bytes two_bytes_each refl (λ x xs. refl) j regs (drop-cons regs j 0 (omega arith)) bytes₀ bytes bytes' 0 (2 * j)
-            w.front (omega (arith, two_for_each (take j regs), size)) (omega arith) put;
+            piece_written two_bytes two_bytes_each refl (λ x xs. refl) j regs (drop-cons regs j 0 h) bytes₀ bytes bytes' 0 (2 * j)
+            w.front (omega (arith, two_for_each (take j regs), size)) (omega (arith, h, many, given)) (put ∙ ap (with_bytes bytes (2 * j)) same);
       }
 
-  pub all_are_written : register_count ≤ j → bytes ≡ two_bytes_each regs
+  pub all_are_written : length regs ≤ j → bytes ≡ two_bytes_each regs
   all_are_written h =
-      let whole : take j regs ≡ regs = take_all j regs (omega arith) in
+      let whole : take j regs ≡ regs = take_all j regs (omega (arith, h)) in
       w.front ∙ rw whole (all_written bytes₀ (two_bytes_each regs) (omega (arith, two_for_each regs)))

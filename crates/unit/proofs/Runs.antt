@@ -1,5 +1,6 @@
 -- The run's loop: at every turn the rest of the run, with what is left of the budget, ends as the whole run does.
 -- A turn at n, without budget or before a full register is where the definitions end the run; any other is one step of it. Assumes nothing.
+use Rattle.std.specs.Prelude.{Result, Ok, Err}
 use Prim.Native.Nat.{ℕ, zero, suc, ◌+◌, ◌-◌, ◌<◌, ◌≤◌}
 use native.Mathlib.Omega.{arith}
 use native.Mathlib.Numerals.{add-one}
@@ -21,8 +22,6 @@ use Rattle.book.specs.declared.flat.Instruction.{Instruction}
 use Rattle.book.specs.Told.{instruction_told}
 use Rattle.book.specs.Asked.{LineWithin, TakenWith}
 use Rattle.book.proofs.Fits.{flat_line_within, flat_line_stands}
-use Rattle.unit.specs.declared.machine.Next as machine
-use Rattle.unit.specs.declared.machine.Next.TheVariants.{GoesTo, Full}
 use Rattle.unit.specs.declared.machine.Outcome.{Outcome}
 use Rattle.unit.specs.declared.machine.Outcome.TheVariants as outcome
 use Rattle.unit.specs.declared.machine.Answer.{Answer}
@@ -143,7 +142,7 @@ module _ (b : List ℕ) (c : Counts) (t : TakenWith b c) (one : c.routines ≤ 1
       pub register_there : RegisterWithin (length rs) (instruction_told x)
       register_there = rw (k.long, reads) (instruction_within b t.taken flat line (rw (sym same_n) (omega arith))).0
 
-      module _ (due : steps ≢ budget) (m : machine.Next) (rs' : Registers)
+      module _ (due : steps ≢ budget) (m : Result FlatLine Reg) (rs' : Registers)
           (does : record { next = next_told m rs'; left = rs' } ≡ did (flat_step line (instruction_told x ∷ []) rs) rs) where
         next_at_line : flat_next (program_of b) line rs ≡ next_told m rs'
         unfolding flat_next
@@ -152,7 +151,7 @@ module _ (b : List ℕ) (c : Counts) (t : TakenWith b c) (one : c.routines ≤ 1
             ∙ only_the_first line (instruction_told x) _ rs
             ∙ next_is _ _ rs rs' does
 
-        pub run_is_full : {g : Reg} (a : Answer) → a ≡ answering (outcome.Full g) → m ≡ Full g → end_told a rs' ≡ whole
+        pub run_is_full : {g : Reg} (a : Answer) → a ≡ answering (outcome.Full g) → m ≡ Err g → end_told a rs' ≡ whole
         unfolding end_told outcome_told next_told
         run_is_full {g} a f e =
             let full : flat_next (program_of b) line rs ≡ before_full g.0 = next_at_line ∙ ap (λ y. next_told y rs') e in
@@ -163,7 +162,7 @@ module _ (b : List ℕ) (c : Counts) (t : TakenWith b c) (one : c.routines ≤ 1
             ∙ ap (run_on (flat_next (program_of b)) (budget - steps) steps line rs) (sym full)
             ∙ k.as_the_whole)
 
-        pub run_goes_on : {u : FlatLine} (done : ℕ) → m ≡ GoesTo u → done ≡ steps + 1 → Keeps b n budget line₀ rs₀ u.0 done rs'
+        pub run_goes_on : {u : FlatLine} (done : ℕ) → m ≡ Ok u → done ≡ steps + 1 → Keeps b n budget line₀ rs₀ u.0 done rs'
         unfolding next_told
         run_goes_on {u} done e counted =
             let goes : flat_next (program_of b) line rs ≡ goes_to u.0 rs' = next_at_line ∙ ap (λ y. next_told y rs') e in

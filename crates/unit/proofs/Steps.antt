@@ -1,5 +1,6 @@
 -- What the machine does before one instruction is the definitions' step at its line.
 -- By the instruction's cases: each does to the registers what the definition says, or nothing where it stands before a full one. Assumes nothing.
+use Rattle.std.specs.Prelude.{Ok, Err}
 use Prim.Native.Nat.{ℕ, zero, suc, ◌+◌, ◌-◌, ◌<◌}
 use native.Mathlib.Omega.{arith}
 use native.Mathlib.Numerals.{add-one}
@@ -18,7 +19,6 @@ use Rattle.book.specs.declared.flat.FlatLine.{FlatLine}
 use Rattle.book.specs.declared.flat.Instruction.{Instruction}
 use Rattle.book.specs.declared.flat.Instruction.TheVariants.{Inc, Dec, GoTo}
 use Rattle.book.specs.Told.{instruction_told}
-use Rattle.unit.specs.declared.machine.Next.TheVariants.{GoesTo, Full}
 use Rattle.unit.specs.Told.{next_told, did}
 
 module _ (x : Instruction) (rs : Registers) (h : RegisterWithin (length rs) (instruction_told x)) (k : ℕ) {g : Reg} where
@@ -40,22 +40,22 @@ module _ (x : Instruction) (l : ℕ) (rs : Registers) where
   due = flat_step l (instruction_told x ∷ []) rs
 
   module _ {g : Reg} where
-    pub INC_stops : x ≡ Inc g → get_or rs g.0 0 ≡ top → record { next = next_told (Full g) rs; left = rs } ≡ did due rs
+    pub INC_stops : x ≡ Inc g → get_or rs g.0 0 ≡ top → record { next = next_told (Err g) rs; left = rs } ≡ did due rs
     unfolding next_told flat_step instruction_told adds_one did value
     INC_stops e full = rw e (ap (λ d. did d rs) (sym (if_true _ _ _ (eq-eqb _ _ full))))
 
     pub INC_goes_on : {v : ℕ} → x ≡ Inc g → get_or rs g.0 0 ≢ top → v ≡ get_or rs g.0 0 + 1
-        → record { next = next_told (GoesTo (record { 0 = l + 1 })) (set rs g.0 v); left = set rs g.0 v } ≡ did due rs
+        → record { next = next_told (Ok (record { 0 = l + 1 })) (set rs g.0 v); left = set rs g.0 v } ≡ did due rs
     unfolding next_told flat_step instruction_told adds_one did value with_value
     INC_goes_on e below f =
         rw (e, f, add-one l, add-one (get_or rs g.0 0)) (ap (λ d. did d rs) (sym (if_false _ _ _ (ne_eqb _ _ below))))
 
-    pub DEC_jumps : {u : FlatLine} → x ≡ Dec g u → get_or rs g.0 0 ≡ 0 → record { next = next_told (GoesTo u) rs; left = rs } ≡ did due rs
+    pub DEC_jumps : {u : FlatLine} → x ≡ Dec g u → get_or rs g.0 0 ≡ 0 → record { next = next_told (Ok u) rs; left = rs } ≡ did due rs
     unfolding next_told flat_step instruction_told takes_one_off takes_one_from did value
     DEC_jumps e none = rw (e, none) refl
 
     pub DEC_goes_on : {u : FlatLine} {v : ℕ} → x ≡ Dec g u → get_or rs g.0 0 ≢ 0 → v ≡ get_or rs g.0 0 - 1
-        → record { next = next_told (GoesTo (record { 0 = l + 1 })) (set rs g.0 v); left = set rs g.0 v } ≡ did due rs
+        → record { next = next_told (Ok (record { 0 = l + 1 })) (set rs g.0 v); left = set rs g.0 v } ≡ did due rs
     unfolding next_told flat_step instruction_told takes_one_off takes_one_from did value with_value
     DEC_goes_on {u} e some f = rw (e, f, add-one l) (one_off (get_or rs g.0 0) some)
       where
@@ -66,6 +66,6 @@ module _ (x : Instruction) (l : ℕ) (rs : Registers) where
             let back : suc w - 1 ≡ w = omega arith in
             rw back refl
 
-  pub GO_TO_jumps : {u : FlatLine} → x ≡ GoTo u → record { next = next_told (GoesTo u) rs; left = rs } ≡ did due rs
+  pub GO_TO_jumps : {u : FlatLine} → x ≡ GoTo u → record { next = next_told (Ok u) rs; left = rs } ≡ did due rs
   unfolding next_told flat_step instruction_told did
   GO_TO_jumps e = rw e refl

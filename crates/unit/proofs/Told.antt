@@ -1,15 +1,14 @@
 -- No two answers of the unit tell the same: each is got back from what it tells.
 -- By the cases of each type, as for the answers of `book`. Assumes nothing.
+use Rattle.std.specs.Prelude.{Result}
 use mathlib.Core.Path.{◌≡◌, refl, ap}
-use Rattle.scope.specs.Refusals.{Answer, refused, accepted}
 use Rattle.scope.specs.Steps as paper
 use Rattle.scope.specs.Running as running
-use Rattle.book.proofs.Told.{apart, refusal_back, refusal_again}
+use Rattle.book.specs.declared.refusals.Refusal.{Refusal}
+use Rattle.book.proofs.Told.{apart, answers_apart}
 use Rattle.unit.specs.declared.machine.Outcome.{Outcome}
 use Rattle.unit.specs.declared.machine.Outcome.TheVariants as outcome
 use Rattle.unit.specs.declared.machine.Answer as machine
-use Rattle.unit.specs.declared.Ran.{Ran}
-use Rattle.unit.specs.declared.Ran.TheVariants as ran
 use Rattle.unit.specs.declared.State.{State}
 use Rattle.unit.specs.Told.{outcome_told, answer_told, ran_told, state_told}
 
@@ -31,17 +30,8 @@ answer_again : (a : machine.Answer) → answer_back (answer_told a) ≡ a
 unfolding answer_told
 answer_again a = ap (λ (o : Outcome). record { outcome = o; steps = a.steps; line = a.line }) (outcome_again a.outcome)
 
-abbrev ran_back : Answer running.Ran → Ran
-ran_back (accepted a) = ran.Done (answer_back a)
-ran_back (refused x) = ran.Refused (refusal_back x)
-
-ran_again : (r : Ran) → ran_back (ran_told r) ≡ r
-unfolding ran_told
-ran_again (ran.Done a) = ap ran.Done (answer_again a)
-ran_again (ran.Refused x) = ap ran.Refused (refusal_again x)
-
-pub runs_apart : (r s : Ran) → ran_told r ≡ ran_told s → r ≡ s
-runs_apart = apart ran_told ran_back ran_again
+pub runs_apart : (r s : Result machine.Answer Refusal) → ran_told r ≡ ran_told s → r ≡ s
+runs_apart = answers_apart answer_told answer_back answer_again
 
 abbrev state_back : running.State → State
 state_back s = record { line = record { 0 = s.line }; regs = s.registers }

@@ -1,26 +1,25 @@
 -- What each answer of the unit tells, in document 01's names and values: one clause a case. Refusals are told as `book` tells them. And
 -- what the machine's step comes to, with the registers that it leaves. Assumes nothing.
-use Rattle.std.specs.Prelude.{ℕ}
-use Rattle.scope.specs.Refusals.{Answer, refused, accepted}
+use Rattle.std.specs.Prelude.{ℕ, Result, Ok, Err}
+use Rattle.scope.specs.Refusals.{Answer}
 use Rattle.scope.specs.Steps as paper
 use Rattle.scope.specs.Steps.{Registers, End, before_full, goes_to, at_the_end}
 use Rattle.scope.specs.Running as running
-use Rattle.book.specs.Told.{refusal_told}
+use Rattle.book.specs.declared.lines.Reg.{Reg}
+use Rattle.book.specs.declared.flat.FlatLine.{FlatLine}
+use Rattle.book.specs.declared.refusals.Refusal.{Refusal}
+use Rattle.book.specs.Told as book
 use Rattle.unit.specs.declared.machine.Outcome.{Outcome}
 use Rattle.unit.specs.declared.machine.Outcome.TheVariants as outcome
 use Rattle.unit.specs.declared.machine.Answer as machine
-use Rattle.unit.specs.declared.machine.Next.{Next}
-use Rattle.unit.specs.declared.machine.Next.TheVariants as next
-use Rattle.unit.specs.declared.Ran.{Ran}
-use Rattle.unit.specs.declared.Ran.TheVariants as ran
 use Rattle.unit.specs.declared.State.{State}
 
 -- ---- one step
 
 -- with what it left in the registers
-unfoldable pub next_told : Next → Registers → paper.Next ℕ
-next_told (next.GoesTo l) rs = goes_to l.0 rs
-next_told (next.Full r) rs = before_full r.0
+unfoldable pub next_told : Result FlatLine Reg → Registers → paper.Next ℕ
+next_told (Ok l) rs = goes_to l.0 rs
+next_told (Err r) rs = before_full r.0
 
 -- What the machine does next, and what then stands in the registers: where no step was made, what stood there.
 pub record Did : Type 0 where
@@ -46,9 +45,8 @@ end_told a rs = record { outcome = outcome_told a.outcome; steps = a.steps; plac
 unfoldable pub answer_told : machine.Answer → running.Ran
 answer_told a = record { outcome = outcome_told a.outcome; steps = a.steps; line = a.line.0 }
 
-unfoldable pub ran_told : Ran → Answer running.Ran
-ran_told (ran.Done a) = accepted (answer_told a)
-ran_told (ran.Refused x) = refused (refusal_told x)
+abbrev pub ran_told : Result machine.Answer Refusal → Answer running.Ran
+ran_told = book.answer_told answer_told
 
 -- ---- the bench step
 

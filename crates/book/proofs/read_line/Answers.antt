@@ -1,10 +1,8 @@
 -- `read_line` answers as the definitions' reading does.
--- A book that is refused decides; a taken one gives what `read_taken` asks. Assumes nothing.
-use Rattle.book.proofs.Answers.{book_refused, checked_taken}
+-- A book that is refused decides; a taken one is read. Assumes nothing.
+use borrow.Author.Rules.{rules}
+use Rattle.book.proofs.Answers.{book_refused}
 use Rattle.book.proofs.read_line.Goals as goal
 
-pub read_taken-requires : goal.read_taken-requires
-read_taken-requires c = search checked_taken
-
-pub returns-in-Refused : goal.returns-in-Refused
-returns-in-Refused c = search book_refused
+pub returns-in_err-open : goal.returns-in_err-open
+returns-in_err-open c = search (rules, book_refused)

@@ -4,9 +4,9 @@ use Rattle.book.proofs.Answers.{no_such_routine, no_such_line, line_found}
 use Rattle.book.specs.Told.{name_told}
 use Rattle.book.proofs.read_taken.Goals as goal
 
-pub returns-then-routines-routine : goal.returns-then-routines-routine
+pub returns-then-b-routine : goal.returns-then-b-routine
 unfolding name_told
-returns-then-routines-routine c = search no_such_routine
+returns-then-b-routine c = search no_such_routine
 
 pub returns-then-count-line : goal.returns-then-count-line
 unfolding name_told

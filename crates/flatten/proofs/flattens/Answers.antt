@@ -4,9 +4,9 @@ use Rattle.book.specs.Told.{name_told}
 use Rattle.flatten.proofs.Answers.{no_such_routine, too_deep, too_long, it_flattens}
 use Rattle.flatten.proofs.flattens.Goals as goal
 
-pub returns-then-routines-routine : goal.returns-then-routines-routine
+pub returns-then-b-routine : goal.returns-then-b-routine
 unfolding name_told
-returns-then-routines-routine c = search no_such_routine
+returns-then-b-routine c = search no_such_routine
 
 pub returns-then-too_deep : goal.returns-then-too_deep
 unfolding name_told

@@ -6,8 +6,8 @@ use Rattle.page.proofs.zn_run.Goals as goal
 pub returns-then-regs-ne-REGISTERS_BYTES : goal.returns-then-regs-ne-REGISTERS_BYTES
 returns-then-regs-ne-REGISTERS_BYTES c = search other_length
 
-pub returns-in-Refused : goal.returns-in-Refused
-returns-in-Refused c = search run_is_refused
+pub returns-in-Err : goal.returns-in-Err
+returns-in-Err c = search run_is_refused
 
-pub returns-in-Done : goal.returns-in-Done
-returns-in-Done c = search run_is_done
+pub returns : goal.returns
+returns c = search run_is_done

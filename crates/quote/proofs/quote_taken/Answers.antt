@@ -1,13 +1,35 @@
 -- `quote_taken` answers as the definitions' quote does, for a taken book.
--- The routines below k are looked at (`RowsTo`); those left fall. Assumes nothing.
-use Rattle.quote.proofs.Looks.{no_routine_looked_at, one_more_looked_at, all_looked_at}
+-- Tests 12, 11, 13, 18 and 19 in their order. Assumes nothing.
+use Rattle.std.proofs.lemmas.Result.{err_from_is_err_and}
+use Rattle.book.specs.Told.{name_told}
+use Rattle.flatten.proofs.Answers.{routine_fits}
+use Rattle.quote.proofs.Answers.{does_not_flatten, asked_is_there, asked_in_the_rows, place_fits, not_steady, over_quoted, quote_in_the_row}
 use Rattle.quote.proofs.quote_taken.Goals as goal
 
-pub loop-k-init : goal.loop-k-init
-loop-k-init c = search no_routine_looked_at
+pub returns-in_err-flattens : goal.returns-in_err-flattens
+returns-in_err-flattens c =
+    let p = err_from_is_err_and c.from_residual.result c.from_residual.ensures.1 in
+    rw (p.1, p.2) (search (does_not_flatten, c.in_err-flattens.was))
 
-pub loop-k-preserved : goal.loop-k-preserved
-loop-k-preserved c = search one_more_looked_at
+pub overflow_cast-routine : goal.overflow_cast-routine
+overflow_cast-routine c = search (routine_fits, c.in_ok-flattens.was)
 
-pub judged-requires-clause-looked_below : goal.judged-requires-clause-looked_below
-judged-requires-clause-looked_below c = search all_looked_at
+pub is_steady-requires-clause-routine_lt_routines : goal.is_steady-requires-clause-routine_lt_routines
+is_steady-requires-clause-routine_lt_routines c = search (asked_is_there, c.in_ok-flattens.was)
+
+pub returns-then-not-is_steady : goal.returns-then-not-is_steady
+unfolding name_told
+returns-then-not-is_steady c = search (not_steady, c.in_ok-flattens.was)
+
+pub offset_bounds-looks-routine : goal.offset_bounds-looks-routine
+offset_bounds-looks-routine c = search (place_fits, c.in_ok-flattens.was)
+
+pub bounds : goal.bounds
+bounds c = search (asked_in_the_rows, c.in_ok-flattens.was)
+
+pub returns-in-None : goal.returns-in-None
+unfolding name_told
+returns-in-None c = search (over_quoted, c.in_ok-flattens.was)
+
+pub returns-in-Some : goal.returns-in-Some
+returns-in-Some c = search (quote_in_the_row, c.in_ok-flattens.was)

@@ -1,15 +1,8 @@
 -- `run` answers as the definitions' running does, and leaves the registers so.
--- A book that is refused decides; a taken one gives what `run_taken` asks. Assumes nothing.
+-- A book that is refused decides; a taken one is run. Assumes nothing.
 use borrow.Author.Rules.{rules}
-use Rattle.book.proofs.Answers.{checked_taken}
 use Rattle.unit.proofs.Answers.{book_refused}
 use Rattle.unit.proofs.run.Goals as goal
 
-pub run_taken-requires : goal.run_taken-requires
-run_taken-requires c = search checked_taken
-
-pub returns-in-Refused : goal.returns-in-Refused
-returns-in-Refused c = search book_refused
-
-pub returns-in-Taken : goal.returns-in-Taken
-returns-in-Taken c = search rules
+pub returns-in_err-open : goal.returns-in_err-open
+returns-in_err-open c = search (rules, book_refused)

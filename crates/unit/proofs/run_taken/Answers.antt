@@ -4,17 +4,17 @@ use Rattle.book.specs.Told.{name_told}
 use Rattle.unit.proofs.Answers.{not_flat, not_32_registers, line_past_the_end, run_answers}
 use Rattle.unit.proofs.run_taken.Goals as goal
 
-pub returns-then-routines-gt1 : goal.returns-then-routines-gt1
+pub returns-then-flat-gt1 : goal.returns-then-flat-gt1
 unfolding name_told
-returns-then-routines-gt1 c = search not_flat
+returns-then-flat-gt1 c = search not_flat
 
 pub returns-then-regs-ne-REGISTERS : goal.returns-then-regs-ne-REGISTERS
 unfolding name_told
 returns-then-regs-ne-REGISTERS c = search not_32_registers
 
-pub returns-then-lines-start : goal.returns-then-lines-start
+pub returns-then-flat-start : goal.returns-then-flat-start
 unfolding name_told
-returns-then-lines-start c = search line_past_the_end
+returns-then-flat-start c = search line_past_the_end
 
 pub returns : goal.returns
 returns c = search run_answers

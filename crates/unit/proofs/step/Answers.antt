@@ -3,8 +3,8 @@
 use Rattle.unit.proofs.Answers.{step_refused, step_made}
 use Rattle.unit.proofs.step.Goals as goal
 
-pub returns-in-Refused : goal.returns-in-Refused
-returns-in-Refused c = search step_refused
+pub returns-in-Err : goal.returns-in-Err
+returns-in-Err c = search step_refused
 
-pub returns-in-Done : goal.returns-in-Done
-returns-in-Done c = search step_made
+pub returns-in-Ok : goal.returns-in-Ok
+returns-in-Ok c = search step_made

@@ -13,9 +13,9 @@ pub overflow_add-at : goal.overflow_add-at
 unfolding flat_book_bytes
 overflow_add-at c = search rules
 
-pub put_four-requires : goal.put_four-requires
+pub put_bytes-requires : goal.put_bytes-requires
 unfolding flat_book_bytes
-put_four-requires c = search rules
+put_bytes-requires c = search rules
 
 pub returns : goal.returns
 unfolding flat_book_bytes

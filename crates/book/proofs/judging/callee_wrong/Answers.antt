@@ -1,13 +1,10 @@
 -- `judging::callee_wrong` is test 10 of the definitions.
--- Each comparison of the code is one of the test's, in its order. Assumes nothing.
-use Rattle.book.proofs.Rules.{tests, calls, via}
-use Rattle.scope.specs.Book.{callee_wrong}
+-- By the kinds. Assumes nothing.
+use Rattle.book.proofs.ByKind.{a_callee_stands, no_callee}
 use Rattle.book.proofs.judging.callee_wrong.Goals as goal
 
-pub returns-then-is_either : goal.returns-then-is_either
-unfolding callee_wrong
-returns-then-is_either c = search (tests, via)
+pub returns-in-Call : goal.returns-in-Call
+returns-in-Call c = search a_callee_stands
 
-pub returns : goal.returns
-unfolding callee_wrong
-returns c = search calls
+pub returns-in-Inc : goal.returns-in-Inc
+returns-in-Inc c = search no_callee

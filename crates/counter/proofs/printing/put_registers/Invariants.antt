@@ -1,12 +1,10 @@
 -- `printing::put_registers` prints one line for each register that is not 0, in order.
--- The lines of the registers before j are printed (`Listed`); those left fall. Assumes nothing.
-use Prim.Native.Nat.{◌-◌}
-use lib.ListN.{length}
-use Rattle.counter.proofs.Lines.{Listed}
+-- What is printed so far and the lines of the registers from j on are the whole text. Assumes nothing.
+use mathlib.Core.Path.{◌≡◌}
+use mathlib.Core.List.{◌++◌}
+use lib.ListN.{drop}
+use Rattle.scope.specs.Shop.{register_lines}
 use Rattle.counter.proofs.printing.put_registers.Given as goal
 
 abbrev pub invariant-loop-j : goal.invariant-loop-j
-invariant-loop-j l = Listed l.from l.regs l.initial.out l.j l.at l.out
-
-abbrev pub decreases-loop-j : goal.decreases-loop-j
-decreases-loop-j l = length l.regs - l.j
+invariant-loop-j l = l.out.items ++ register_lines l.j (drop l.j l.regs) ≡ l.initial.out.items ++ register_lines 0 l.regs

@@ -5,7 +5,7 @@ use Rattle.flatten.proofs.Finding.{Between}
 use Rattle.flatten.proofs.copying.halve.Given as goal
 
 abbrev pub invariant-loop-low : goal.invariant-loop-low
-invariant-loop-low l = Between l.b l.k l.x l.low l.high
+invariant-loop-low l = Between l.starts.book.bytes.now l.k l.x l.low l.high
 
 abbrev pub decreases-loop-low : goal.decreases-loop-low
 decreases-loop-low l = l.high - l.low

@@ -1,10 +1,7 @@
 -- `copying::paste_at` is what stands at a flat line, and the place behind it.
 -- At every turn the flat line lies in a line of a copy that stands in the program (`Looking`); the routine falls. Assumes nothing.
-use Rattle.flatten.proofs.Pasting.{looks_first, pasted_there, in_the_inner, looks_deeper, falls}
+use Rattle.flatten.proofs.Pasting.{pasted_there, in_the_inner, looks_deeper, falls}
 use Rattle.flatten.proofs.copying.paste_at.Goals as goal
-
-pub loop-x-init : goal.loop-x-init
-loop-x-init c = search looks_first
 
 pub returns-in-Stands : goal.returns-in-Stands
 returns-in-Stands c = search pasted_there

@@ -6,7 +6,7 @@ use Rattle.flatten.proofs.Pasting.{Looking}
 use Rattle.flatten.proofs.copying.paste_at.Given as goal
 
 abbrev pub invariant-loop-x : goal.invariant-loop-x
-invariant-loop-x l = Looking (flat_program (book_of l.b) l.routine) l.b l.starts l.at l.p.0 l.initial.seen l.seen
+invariant-loop-x l = Looking (flat_program (book_of l.starts.book.bytes.now) l.routine) l.starts.book.bytes.now l.starts.table.now l.at l.p.0 l.initial.seen l.seen
 
 abbrev pub decreases-loop-x : goal.decreases-loop-x
 decreases-loop-x l = l.at.routine

@@ -1,14 +1,10 @@
 -- `depth::routine_depth` is how many routines are open inside one another from a routine on, stopped at the cap.
 -- The first j lines are looked at (`DeepestTo`); the count less j falls. Assumes nothing.
-use Rattle.flatten.proofs.Rows.{line_is_there}
 use Rattle.flatten.proofs.Deepest.{none_looked_at, one_more_looked_at, routine_depth_is}
 use Rattle.flatten.proofs.depth.routine_depth.Goals as goal
 
 pub loop-j-init : goal.loop-j-init
 loop-j-init c = search none_looked_at
-
-pub line_depth-requires : goal.line_depth-requires
-line_depth-requires c = search line_is_there
 
 pub loop-j-preserved : goal.loop-j-preserved
 loop-j-preserved c = search one_more_looked_at

@@ -1,5 +1,6 @@
 -- `lengths::line_length` is the length of a line, stopped at the cap.
 -- By the kinds of line; CALL and REPEAT look the routine up in the row. Assumes nothing.
+use Rattle.std.proofs.Common.{arith}
 use Rattle.scope.specs.Flattening.{line_length}
 use Rattle.book.specs.Told.{line_told}
 use Rattle.flatten.proofs.Rows.{length_is, CALL_in_the_row, REPEAT_in_the_row, CALL_length, REPEAT_length_fits, REPEAT_length}
@@ -16,15 +17,7 @@ overflow_add-lengths c = search REPEAT_length_fits
 
 pub returns-in-Inc : goal.returns-in-Inc
 unfolding line_length line_told
-returns-in-Inc c = search length_is
-
-pub returns-in-Dec : goal.returns-in-Dec
-unfolding line_length line_told
-returns-in-Dec c = search length_is
-
-pub returns-in-GoTo : goal.returns-in-GoTo
-unfolding line_length line_told
-returns-in-GoTo c = search length_is
+returns-in-Inc c = grind arith
 
 pub returns-in-Call : goal.returns-in-Call
 unfolding line_length line_told

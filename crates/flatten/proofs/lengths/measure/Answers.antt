@@ -1,13 +1,10 @@
 -- `lengths::measure` puts where the lines of a routine start in the table, and is its length.
 -- The first j lines are measured (`Summing`); the count less j falls. Assumes nothing.
-use Rattle.flatten.proofs.Rows.{line_is_there, nothing_summed, one_more_summed, routine_measured}
+use Rattle.flatten.proofs.Rows.{nothing_summed, one_more_summed, routine_measured}
 use Rattle.flatten.proofs.lengths.measure.Goals as goal
 
 pub loop-j-init : goal.loop-j-init
 loop-j-init c = search nothing_summed
-
-pub next_start-sum-requires-clause-j_bound : goal.next_start-sum-requires-clause-j_bound
-next_start-sum-requires-clause-j_bound c = search line_is_there
 
 pub loop-j-preserved : goal.loop-j-preserved
 loop-j-preserved c = search one_more_summed

@@ -18,9 +18,6 @@ bounds-regs-k-in-Dec c = search DEC_within
 pub returns-then-v-eq0 : goal.returns-then-v-eq0
 returns-then-v-eq0 c = search DEC_jumps
 
-pub bounds-regs-k-in-Dec-2 : goal.bounds-regs-k-in-Dec-2
-bounds-regs-k-in-Dec-2 c = search DEC_within
-
 pub returns-else-v : goal.returns-else-v
 returns-else-v c = search INC_goes_on
 

@@ -12,14 +12,11 @@ returns-then-line-n c = search ends
 pub returns-then-steps-budget : goal.returns-then-steps-budget
 returns-then-steps-budget c = search ends
 
-pub instruction_at-requires : goal.instruction_at-requires
-instruction_at-requires c = search line_there
+pub does-requires : goal.does-requires
+does-requires c = search (register_there, line_below_the_most)
 
-pub does-next-requires : goal.does-next-requires
-does-next-requires c = search (register_there, line_below_the_most)
-
-pub returns-in-Full : goal.returns-in-Full
-returns-in-Full c = search ends
+pub returns-in-Err : goal.returns-in-Err
+returns-in-Err c = search ends
 
 pub run-preserved : goal.run-preserved
 run-preserved c = search run_goes_on

@@ -5,7 +5,7 @@ use Rattle.unit.proofs.Runs.{Keeps}
 use Rattle.unit.proofs.machine.run_on.Given as goal
 
 abbrev pub invariant-run : goal.invariant-run
-invariant-run l = Keeps l.flat l.n l.budget l.initial.line.0 l.initial.regs l.line.0 l.steps l.regs
+invariant-run l = Keeps l.flat.bytes.now l.n l.budget l.initial.line.0 l.initial.regs l.line.0 l.steps l.regs
 
 abbrev pub decreases-run : goal.decreases-run
 decreases-run l = l.budget - l.steps

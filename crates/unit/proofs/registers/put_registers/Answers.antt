@@ -1,5 +1,5 @@
 -- `registers::put_registers` leaves the bytes of the registers.
--- The first j are written (`WrittenTo`); 32 less j falls. Assumes nothing.
+-- The first j are written (`WrittenTo`). Assumes nothing.
 use Rattle.unit.proofs.AsBytes.{none_written, one_more_written, all_are_written}
 use Rattle.unit.proofs.registers.put_registers.Goals as goal
 
