@@ -13,7 +13,7 @@ use Rattle.scope.proofs.TakenBook.{taken_header, taken_book, fields_read_back}
 use Rattle.book.specs.declared.header.Counts.{Counts}
 use Rattle.book.specs.declared.lines.Line.{Line}
 use Rattle.book.specs.declared.refusals.Refusal.{Refusal}
-use Rattle.book.specs.Told.{refusal_told, verdict_told, answer_told, counts_told, check_told, line_told, read_told}
+use Rattle.book.specs.Told.{refusal_told, verdict_told, result_told, counts_told, check_told, line_told, read_told}
 use Rattle.book.specs.declared.reader.Book.{Book}
 use Rattle.book.specs.Opened.{opened_counts}
 use Rattle.book.specs.Asked.{CountsOf, Sized, Tabled, TakenWith}
@@ -73,7 +73,7 @@ module _ (b : List ℕ) (front : Result (Unit {0}) Refusal) (header_says : verdi
 
 module _ (b : List ℕ) (v : Result (Unit {0}) Refusal) (book_says : verdict_told v ≡ book_verdict b) where
   pub check_refuses : {x : Refusal} → v ≡ Err x → check_told (Err x) ≡ check_answer b
-  unfolding answer_told check_answer
+  unfolding result_told check_answer
   check_refuses e = sym ((refused_exactly_when _ _ _).1 (told_refusal book_says e))
 
   pub book_has_a_header : v ≡ Ok tt → header_bytes ≤ length b
@@ -81,17 +81,17 @@ module _ (b : List ℕ) (v : Result (Unit {0}) Refusal) (book_says : verdict_tol
   book_has_a_header e = (taken_header b (then_passes (header_verdict b) (told_pass book_says e)).0).has_a_header
 
   pub check_takes : (c : Counts) → v ≡ Ok tt → CountsOf b c → check_told (Ok c) ≡ check_answer b
-  unfolding answer_told counts_told check_answer
+  unfolding result_told counts_told check_answer
   check_takes c e k = rw (k.routines_are, k.lines_are) (sym (accepted_where_passed _ (told_pass book_says e)))
 
 -- What every caller has who has checked a book: refused, the refusal is the book's; taken, the facts of a taken book.
-module _ {A : Type 0} (b : List ℕ) (told : A → book.Counts) (r : Result A Refusal) (answers : answer_told told r ≡ check_answer b) where
+module _ {A : Type 0} (b : List ℕ) (told : A → book.Counts) (r : Result A Refusal) (answers : result_told told r ≡ check_answer b) where
   pub checked_refused : {x : Refusal} → r ≡ Err x → book_verdict b ≡ refuse (refusal_told x)
-  unfolding answer_told check_answer
-  checked_refused e = (refused_exactly_when _ _ _).0 (sym answers ∙ ap (answer_told told) e)
+  unfolding result_told check_answer
+  checked_refused e = (refused_exactly_when _ _ _).0 (sym answers ∙ ap (result_told told) e)
 
 pub checked_taken : (b : List ℕ) (r : Result Counts Refusal) → check_told r ≡ check_answer b → {c : Counts} → r ≡ Ok c → TakenWith b c
-unfolding answer_told counts_told check_answer
+unfolding result_told counts_told check_answer
 checked_taken b r answers {c} e =
     let p = accepted_only_where_passed (book_verdict b) (sym answers ∙ ap check_told e) in
     let same = sym p.1 in
@@ -104,26 +104,26 @@ checked_taken b r answers {c} e =
 -- ---- opening
 
 module _ (b : List ℕ) (r : Result Counts Refusal) (answers : check_told r ≡ check_answer b) where
-  pub open_refuses : {x : Refusal} → r ≡ Err x → answer_told opened_counts (Err x) ≡ check_answer b
-  unfolding answer_told
+  pub open_refuses : {x : Refusal} → r ≡ Err x → result_told opened_counts (Err x) ≡ check_answer b
+  unfolding result_told
   open_refuses e = ap check_told (sym e) ∙ answers
 
-  pub opened : {c : Counts} (k : Book) → r ≡ Ok c → k.counts ≡ c → answer_told opened_counts (Ok k) ≡ check_answer b
-  unfolding answer_told opened_counts
+  pub opened : {c : Counts} (k : Book) → r ≡ Ok c → k.counts ≡ c → result_told opened_counts (Ok k) ≡ check_answer b
+  unfolding result_told opened_counts
   opened k e same = ap (λ c. accepted (counts_told c)) same ∙ ap check_told (sym e) ∙ answers
 
 -- ---- reading
 
 module _ (b : List ℕ) (r j : ℕ) where
-  pub book_refused : {A : Type 0} (told : A → book.Counts) (k : Result A Refusal) {x : Refusal} → answer_told told k ≡ check_answer b → k ≡ Err x
+  pub book_refused : {A : Type 0} (told : A → book.Counts) (k : Result A Refusal) {x : Refusal} → result_told told k ≡ check_answer b → k ≡ Err x
       → read_told (Err x) ≡ read_answer b r j
-  unfolding answer_told read_answer read_verdict
+  unfolding result_told read_answer read_verdict
   book_refused told k s e = sym ((refused_exactly_when _ _ _).1 (then_refuses _ (checked_refused b told k s e)))
 
   module _ (c : Counts) (t : TakenWith b c) where
     pub no_such_routine : (x : Refusal) → refusal_told x ≡ refusal NO_ROUTINE 0 → c.routines ≤ r
         → read_told (Err x) ≡ read_answer b r j
-    unfolding answer_told read_answer read_verdict
+    unfolding result_told read_answer read_verdict
     no_such_routine x s h =
         sym ((refused_exactly_when _ _ _).1 (then_goes_on _ t.taken
         ∙ refuses _ _ (not_below_tells r (routines b)) (rw (sym t.tabled.sized.counts.routines_are) h)
@@ -135,7 +135,7 @@ module _ (b : List ℕ) (r j : ℕ) where
 
       pub no_such_line : (x : Refusal) (n : ℕ) → refusal_told x ≡ refusal LINE 0 → n ≡ count b r → n ≤ j
           → read_told (Err x) ≡ read_answer b r j
-      unfolding answer_told read_answer read_verdict
+      unfolding result_told read_answer read_verdict
       no_such_line x n s k l =
           sym ((refused_exactly_when _ _ _).1 (then_goes_on _ t.taken
           ∙ goes_on _ _ (not_below_tells r (routines b)) here
@@ -144,7 +144,7 @@ module _ (b : List ℕ) (r j : ℕ) where
 
       pub line_found : (l : Line) (n : ℕ) → n ≡ count b r → j < n → line_told l ≡ line_of (fields_in b r j)
           → read_told (Ok l) ≡ read_answer b r j
-      unfolding answer_told read_answer read_verdict
+      unfolding result_told read_answer read_verdict
       line_found l n k s e =
           let below : j < count b r = rw (sym k) s in
           ap accepted (ap fields_of e ∙ fields_read_back (fields_in b r j) r (count b r) ((taken_book b t.taken).lines_right r j here below))

@@ -16,7 +16,7 @@ use Rattle.book.specs.declared.lines.Line.TheVariants as line
 use Rattle.book.specs.declared.flat.Instruction.{Instruction}
 use Rattle.book.specs.declared.flat.Instruction.TheVariants as instruction
 use Rattle.book.specs.declared.header.Counts.{Counts}
-use Rattle.book.specs.Told.{name_told, refusal_told, answer_told, number_told, counts_told, check_told, line_told, read_told, instruction_told}
+use Rattle.book.specs.Told.{name_told, refusal_told, result_told, number_told, counts_told, check_told, line_told, read_told, instruction_told}
 
 -- what is got back tells apart
 pub apart : {A B : Type 0} (told : A → B) (back : B → A) → ((x : A) → back (told x) ≡ x) → (x y : A) → told x ≡ told y → x ≡ y
@@ -85,13 +85,13 @@ module _ {A B : Type 0} (told : A → B) (back : B → A) (again : (x : A) → b
   answer_back (accepted x) = Ok (back x)
   answer_back (refused x) = Err (refusal_back x)
 
-  answer_again : (r : Result A Refusal) → answer_back (answer_told told r) ≡ r
-  unfolding answer_told answer_back
+  answer_again : (r : Result A Refusal) → answer_back (result_told told r) ≡ r
+  unfolding result_told answer_back
   answer_again (Ok x) = ap Ok (again x)
   answer_again (Err x) = ap Err (refusal_again x)
 
-  pub answers_apart : (r s : Result A Refusal) → answer_told told r ≡ answer_told told s → r ≡ s
-  answers_apart = apart (answer_told told) answer_back answer_again
+  pub answers_apart : (r s : Result A Refusal) → result_told told r ≡ result_told told s → r ≡ s
+  answers_apart = apart (result_told told) answer_back answer_again
 
 pub numbers_apart : (r s : Result ℕ Refusal) → number_told r ≡ number_told s → r ≡ s
 numbers_apart = answers_apart (λ n. n) (λ n. n) (λ n. refl)

@@ -28,7 +28,7 @@ use Rattle.book.proofs.lines.line_at.Reads as line_at
 use Rattle.book.proofs.flat.put_header.Reads as put_header
 use Rattle.book.proofs.flat.put_line.Reads as put_line
 use Rattle.book.proofs.flat.instruction_at.Reads as instruction_at
-use Rattle.book.specs.Told.{answer_told, check_told}
+use Rattle.book.specs.Told.{result_told, check_told}
 use Rattle.book.specs.Opened.{opened_counts}
 use Rattle.book.proofs.Told.{refusals_apart, checks_apart, lines_apart, reads_apart, instructions_apart}
 
@@ -114,8 +114,8 @@ seen_beside : (b : List ℕ) (r : Result Book Refusal) → IfOk r (λ k. k.bytes
 seen_beside b (Ok k) e = ap (λ bytes. Ok (k.counts, bytes)) e
 seen_beside b (Err x) e = refl
 
-counts_told_seen : (r : Result Book Refusal) → answer_told opened_counts r ≡ check_told (counts_seen r)
-unfolding answer_told opened_counts
+counts_told_seen : (r : Result Book Refusal) → result_told opened_counts r ≡ check_told (counts_seen r)
+unfolding result_told opened_counts
 counts_told_seen (Ok k) = refl
 counts_told_seen (Err x) = refl
 

@@ -48,14 +48,14 @@ unfoldable pub verdict_told : Result (Unit {0}) Refusal → paper.Verdict
 verdict_told (Ok _) = paper.pass
 verdict_told (Err x) = paper.refuse (refusal_told x)
 
--- What a call answers, or its refusal: `told` says what is told of an answer.
-unfoldable pub answer_told : {A B : Type 0} → (told : A → B) → Result A Refusal → Answer B
-answer_told told (Ok a) = accepted (told a)
-answer_told told (Err x) = refused (refusal_told x)
+-- What a call answers, or its refusal: `told` says what is told of a value.
+unfoldable pub result_told : {A B : Type 0} → (told : A → B) → Result A Refusal → Answer B
+result_told told (Ok a) = accepted (told a)
+result_told told (Err x) = refused (refusal_told x)
 
 -- a number, or the refusal
 abbrev pub number_told : Result ℕ Refusal → Answer ℕ
-number_told = answer_told (λ n. n)
+number_told = result_told (λ n. n)
 
 -- ---- checking a book
 
@@ -63,7 +63,7 @@ unfoldable pub counts_told : Counts → book.Counts
 counts_told c = record { routine_count = c.routines; line_count = c.lines }
 
 abbrev pub check_told : Result Counts Refusal → Answer book.Counts
-check_told = answer_told counts_told
+check_told = result_told counts_told
 
 -- ---- reading one line of it
 
@@ -90,7 +90,7 @@ line_told (line.Call k) = book.CALL k
 line_told (line.Repeat r k) = book.REPEAT r.0 k
 
 abbrev pub read_told : Result Line Refusal → Answer LineFields
-read_told = answer_told (λ l. fields_of (line_told l))
+read_told = result_told (λ l. fields_of (line_told l))
 
 -- ---- a line of a flat book
 

@@ -48,7 +48,7 @@ pub fn put_header(out: &mut [u8], n: u16)
     put_two(out, HEADER_BYTES, 0, n);
 }
 
-// The table of kinds, for an instruction.
+// The table of kinds, for an instruction. (A function and no From, since it asks that a target fits two bytes.)
 fn fields_of(x: Instruction) -> Fields
     requires { TargetWithin most_flat_lines (instruction_told x) }
     ensures { fields_told result ≡ fields_of (as_line (instruction_told x)) }

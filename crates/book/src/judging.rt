@@ -14,6 +14,13 @@ const LAST_REGISTER: u8 = 31;
 // A row of limits has room for kinds 0 to 7.
 const KINDS: usize = 8;
 
+// What a line's register has to be below, and its operand.
+#[derive(Clone, Copy)]
+struct Limit {
+    register: u32,
+    operand: u32,
+}
+
 // 8 REGISTER: above 31, or not 0 where 0 stands, in GO TO and CALL.
 fn register_wrong(kind: Kind, register: u8) -> bool
     ensures { result ≡ register_wrong (kind_told kind) register }
@@ -64,32 +71,57 @@ fn line_test(f: Fields, caller: u16, count: u16, place: u16) -> Result<(), Refus
     Ok(())
 }
 
-// What a line's register has to be below, for kinds 0 to 7, and then what its operand has to be below, so that nothing of 7 to 10 is wrong.
-fn limits(caller: u16, count: u16) -> [u32; 2 * KINDS]
+// What the limits of each kind are, for kinds 0 to 7, so that nothing of 7 to 10 is wrong with a line within them.
+fn limits(caller: u16, count: u16) -> [Limit; KINDS]
     ensures { result ≡ limits caller count }
 {
     let register = LAST_REGISTER as u32 + 1;
     let target = count as u32 + 1;
     let callee = caller as u32;
+    let none = Limit {
+        register: 0,
+        operand: 0,
+    };
     [
-        0, register, register, 1, 1, register, 0, 0, 0, 1, target, target, callee, callee, 0, 0,
+        none,
+        Limit {
+            register,
+            operand: 1,
+        },
+        Limit {
+            register,
+            operand: target,
+        },
+        Limit {
+            register: 1,
+            operand: target,
+        },
+        Limit {
+            register: 1,
+            operand: callee,
+        },
+        Limit {
+            register,
+            operand: callee,
+        },
+        none,
+        none,
     ]
 }
 
 // Whether a line is within the limits of its kind. A good line takes as long whatever its kind.
-fn within(f: Fields, row: &[u32; 2 * KINDS]) -> bool
+fn within(f: Fields, row: &[Limit; KINDS]) -> bool
     ensures { result ≡ within row.now f.kind f.register f.operand }
 {
     let kind = f.kind as usize;
     if KINDS <= kind {
         return false;
     }
-    let register = f.register as u32;
-    if row[kind] <= register {
+    let limit = row[kind];
+    if limit.register <= f.register as u32 {
         return false;
     }
-    let operand = f.operand as u32;
-    operand < row[KINDS + kind]
+    (f.operand as u32) < limit.operand
 }
 
 // A line within its limits passes; any other is tested, and so the number that is wrong is found.
@@ -98,7 +130,7 @@ fn line_verdict(
     caller: u16,
     count: u16,
     place: u16,
-    row: &[u32; 2 * KINDS],
+    row: &[Limit; KINDS],
 ) -> Result<(), Refusal>
     requires { row.now ≡ limits caller count }
     ensures { verdict_told result ≡ line_test f.kind f.register f.operand caller count place }
@@ -109,7 +141,7 @@ fn line_verdict(
     line_test(f, caller, count, place)
 }
 
-// The lowest bad line is the one named, found routine by routine.
+// The lowest bad line is the one named, found routine by routine. (It reads the slice: before these tests no book is taken, so there is no reader.)
 pub(crate) fn lines_verdict(b: &[u8], counts: Counts) -> Result<(), Refusal>
     requires { Tabled b.now counts }
     ensures { verdict_told result ≡ lines_verdict b.now }

@@ -1,7 +1,7 @@
 // The book reader: a taken book's bytes, where the caller has them, with their counts. No copy of the bytes is made.
 ghost use Rattle.std.specs.Prelude.{◌≡◌, ◌<◌, IfOk};
 ghost use Rattle.scope.specs.Book.{routines, first_line, count, line_of, fields_in, check_answer};
-ghost use Rattle.book.specs.Told.{answer_told, counts_told, line_told};
+ghost use Rattle.book.specs.Told.{result_told, counts_told, line_told};
 ghost use Rattle.book.specs.Asked.{TakenWith};
 
 use super::header::Counts;
@@ -10,6 +10,7 @@ use super::refusals::Refusal;
 use super::{check, table};
 
 // That the bytes are a taken book and the counts are its own is true of every reader, so no caller has to say it again.
+// (A routine's or a line's number stays a number beside it: loops count them, and a value for each turn would only hold the book again.)
 #[derive(Clone, Copy)]
 pub struct Book<'a> {
     pub bytes: &'a [u8],
@@ -23,7 +24,7 @@ impl<'a> Book<'a> {
 
     // The book in these bytes, checked, or refused.
     pub fn open(bytes: &'a [u8]) -> Result<Book<'a>, Refusal>
-        ensures answer { answer_told opened_counts result ≡ check_answer bytes.now }
+        ensures answer { result_told opened_counts result ≡ check_answer bytes.now }
         ensures same_bytes { IfOk result (λ book. book.bytes.now ≡ bytes.now) }
     {
         let counts = check(bytes)?;

@@ -27,7 +27,7 @@ pub enum Name {
     Quote = 19,
 }
 
-// The number of a name in the table.
+// The number of a name in the table. (A function and no From, since its promise and its uniqueness are stated under this name.)
 pub fn number(name: Name) -> u16
     ensures { result ≡ number (name_told name) }
 {

@@ -79,12 +79,12 @@ pub ruleset outcomes = (texts, FINISHED_line, FULL_line)
 
 module _ (r : Result Answer Refusal) (rs : Registers) where
   pub answer_is_its_refusal : {x : Refusal} → r ≡ Err x → print_answer (ran_told r) rs ≡ print_refusal (refusal_told x)
-  unfolding print_answer book.answer_told
+  unfolding print_answer book.result_told
   answer_is_its_refusal e = rw e refl
 
   pub answer_is_its_lines : {a : Answer} → r ≡ Ok a
       → print_answer (ran_told r) rs ≡ outcome_line (outcome_told a.outcome) a.steps a.line.0 ++ register_lines 0 rs
-  unfolding print_answer book.answer_told answer_told
+  unfolding print_answer book.result_told answer_told
   answer_is_its_lines e = rw e refl
 
 -- how `put_ran` is met

@@ -26,7 +26,7 @@ use Rattle.scope.proofs.FlatLines.{length_flat_program}
 use Rattle.scope.proofs.FlatBook.{flat_book_is_taken}
 use Rattle.scope.proofs.Flattened.{flattened_can_be_run}
 use Rattle.book.specs.declared.refusals.Refusal.{Refusal}
-use Rattle.book.specs.Told.{refusal_told, answer_told, number_told}
+use Rattle.book.specs.Told.{refusal_told, result_told, number_told}
 use Rattle.flatten.proofs.Output.{routine_flattens, n_is_its_length, flat_book_in_front}
 use Rattle.unit.specs.declared.machine.Answer.{Answer}
 use Rattle.unit.specs.Told.{ran_told}
@@ -89,7 +89,7 @@ module _ (book trailer : List ℕ) (many : length trailer ≡ trailer_length) (l
       refused_before (flattening_NO_ROOM g small) = absurd (omega (arith, g.not_too_long, small, size))
 
       pub shop_prints_its_refusal : shop_prints input ≡ print_refusal (refusal_told x)
-      unfolding flatten_call call_of answer_told
+      unfolding flatten_call call_of result_told
       shop_prints_its_refusal =
           let answers = ap (λ c. c.answer) (rw e at as_read) in
           shop_prints_a_refusal input (refusal_told x)

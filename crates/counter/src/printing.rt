@@ -1,5 +1,5 @@
 // How lines are printed: fields are parted by one space, every line ends in byte 10. Each function prints a text behind what is printed, and
-// asks for room for just that text.
+// asks for room for just that text. (That is another text in each, so the type of what is printed can't say it.)
 // `write!` promises what it wrote only where it succeeds, and never that it does: so lines are put together here.
 ghost use Rattle.std.specs.Prelude.{◌≡◌, ◌++◌};
 ghost use Rattle.scope.specs.Shop.{outcome_line, register_line, register_lines, print_refusal};

@@ -25,7 +25,7 @@ use Rattle.scope.proofs.GivenByCalls.{to_flatten_given_exactly_when, flattens_ex
 use Rattle.scope.proofs.Answers.{flatten_refused_exactly, flatten_accepts}
 use Rattle.book.specs.declared.header.Counts.{Counts}
 use Rattle.book.specs.declared.refusals.Refusal.{Refusal}
-use Rattle.book.specs.Told.{refusal_told, answer_told, number_told}
+use Rattle.book.specs.Told.{refusal_told, result_told, number_told}
 use Rattle.book.specs.Asked.{TakenWith}
 use Rattle.book.proofs.Answers.{checked_refused}
 use Rattle.flatten.specs.Rows.{length_cap, Row}
@@ -39,7 +39,7 @@ module _ (b : List ℕ) (c : Counts) (t : TakenWith b c) (k : ℕ) where
   judged = answer_of (flattens_verdict b k) (flat_length (book_of b) k)
 
   judged_so : (x : Refusal) {y : paper.Refusal} → refusal_told x ≡ y → GivenToFlatten b k y → number_told (Err x) ≡ judged
-  unfolding answer_told
+  unfolding result_told
   judged_so x s g = rw s (sym ((refused_exactly_when _ _ _).1 ((to_flatten_given_exactly_when b k _).1 g)))
 
   pub no_such_routine : (x : Refusal) (R : ℕ) → refusal_told x ≡ refusal NO_ROUTINE 0 → R ≡ c.routines → R ≤ k → number_told (Err x) ≡ judged
@@ -53,9 +53,6 @@ module _ (b : List ℕ) (c : Counts) (t : TakenWith b c) (k : ℕ) where
     too_deep x s e =
         judged_so x s (to_flatten_DEPTH t.taken here ((depth_tells (book_of b) (taken_callees_below b t.taken) k).when_true.0 (sym tested ∙ e)))
 
-    pub length_fits : (lengths : List ℕ) → Row (flat_length (book_of b)) length_cap (routines b) lengths → Fits w64 (get_or lengths k 0)
-    length_fits lengths row = record { fits = omega (arith, row.each k here) }
-
     module _ (shallow : deep ≡ false) (lengths : List ℕ) (row : Row (flat_length (book_of b)) length_cap (routines b) lengths) (n : ℕ)
         (size : n ≡ get_or lengths k 0) where
       not_too_deep : ¬ OpensTooMany (book_of b) k
@@ -65,7 +62,7 @@ module _ (b : List ℕ) (c : Counts) (t : TakenWith b c) (k : ℕ) where
       too_long x s g = judged_so x s (to_flatten_TOO_LONG t.taken here not_too_deep (omega (arith, g, size, row.each k here)))
 
       pub it_flattens : n ≤ most_flat_lines → number_told (Ok n) ≡ judged
-      unfolding answer_told
+      unfolding result_told
       it_flattens g =
           let exact : n ≡ flat_length (book_of b) k = omega (arith, g, size, row.each k here) in
           let passes =
@@ -77,12 +74,12 @@ module _ (b : List ℕ) (c : Counts) (t : TakenWith b c) (k : ℕ) where
 
 module _ (b : List ℕ) (k : ℕ) (r : Result ℕ Refusal) (told : number_told r ≡ answer_of (flattens_verdict b k) (flat_length (book_of b) k)) where
   pub refused_as_given : {x : Refusal} → r ≡ Err x → GivenToFlatten b k (refusal_told x)
-  unfolding answer_told
+  unfolding result_told
   refused_as_given e = (to_flatten_given_exactly_when b k _).0 ((refused_exactly_when _ _ _).0 (sym told ∙ ap number_told e))
 
   module _ (n : ℕ) (flat : r ≡ Ok n) where
     passed : (flattens_verdict b k ≡ pass) × (flat_length (book_of b) k ≡ n)
-    unfolding answer_told
+    unfolding result_told
     passed = accepted_only_where_passed _ (sym told ∙ ap number_told flat)
 
     pub it_passes : Flattens b k
@@ -99,10 +96,10 @@ module _ (b : List ℕ) (k : ℕ) (r : Result ℕ Refusal) (told : number_told r
 module _ (b : List ℕ) (k : ℕ) (out : List ℕ) where
   refused_with : (x : Refusal) {y : paper.Refusal} → refusal_told x ≡ y → GivenFlattening b k (length out) y
       → record { answer = number_told (Err x); left = out } ≡ flatten_call b k out
-  unfolding answer_told
+  unfolding result_told
   refused_with x s g = rw s (sym ((flatten_refused_exactly b k out _).1 g))
 
-  pub book_refused : {A : Type 0} (told : A → book.Counts) (r : Result A Refusal) {x : Refusal} → answer_told told r ≡ check_answer b → r ≡ Err x
+  pub book_refused : {A : Type 0} (told : A → book.Counts) (r : Result A Refusal) {x : Refusal} → result_told told r ≡ check_answer b → r ≡ Err x
       → record { answer = number_told (Err x); left = out } ≡ flatten_call b k out
   book_refused told r {x} s e =
       refused_with x refl (flattening_before (to_flatten_the_book ((given_exactly_when b _).0 (checked_refused b told r s e))))
@@ -142,7 +139,7 @@ module _ (b : List ℕ) (k : ℕ) (out : List ℕ) where
 
       pub flat_book_there : (out' : List ℕ) → 16 + 4 * n ≤ length out → out' ≡ at_the_front_of out (flat_book (flat_program (book_of b) k))
           → record { answer = number_told (Ok n); left = out' } ≡ flatten_call b k out
-      unfolding answer_told flat_book_bytes
+      unfolding result_told flat_book_bytes
       flat_book_there out' room written =
           (λ i. record { answer = accepted (exact i); left = written i })
           ∙ sym (flatten_accepts b k out flattens (omega (arith, room, exact)))

@@ -19,7 +19,7 @@ use Rattle.scope.proofs.GivenByCalls.{flattens_exactly_when}
 use Rattle.scope.proofs.FlatLines.{length_flat_program, Stands, line_stands, repeat_looks, repeat_goes_back}
 use Rattle.scope.proofs.WrittenBook.{length_flat_book, read_at}
 use Rattle.scope.proofs.FlatBook.{flat_program_fits, flat_book_is_taken}
-use Rattle.book.specs.Told.{answer_told, number_told}
+use Rattle.book.specs.Told.{result_told, number_told}
 
 -- This is what a caller learns of `flatten` where it answers n.
 module _ (b : List ℕ) (k n : ℕ) (out out' : List ℕ) (told : record { answer = number_told (Ok n); left = out' } ≡ flatten_call b k out) where
@@ -27,7 +27,7 @@ module _ (b : List ℕ) (k n : ℕ) (out out' : List ℕ) (told : record { answe
   flat = flat_program (book_of b) k
 
   passed : (flatten_verdict b k (length out) ≡ pass) × (flat_length (book_of b) k ≡ n)
-  unfolding answer_told flatten_call call_of
+  unfolding result_told flatten_call call_of
   passed = accepted_only_where_passed (flatten_verdict b k (length out)) (ap (λ c. c.answer) (sym told))
 
   -- The routine flattens, and n is its length.

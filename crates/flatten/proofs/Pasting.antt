@@ -8,10 +8,10 @@ use native.Mathlib.Numerals.{add-one}
 use mathlib.Core.Path.{◌≡◌, refl, sym, ◌∙◌, ap}
 use mathlib.Core.Logic.{◌≢◌}
 use mathlib.Core.List.{List, ◌∷◌}
-use lib.ListN.{length, drop}
+use lib.ListN.{drop}
 use Rattle.scope.specs.Ram.{Program, Has, has}
 use Rattle.scope.specs.Book as book
-use Rattle.scope.specs.Book.{Book, most_routines, most_lines, routines, count, REPEAT, line_of, fields_in, routine, Taken, LineUses, by_CALL, by_REPEAT, CalleesBelow, book_of}
+use Rattle.scope.specs.Book.{Book, most_lines, routines, count, REPEAT, line_of, fields_in, routine, Taken, LineUses, by_CALL, by_REPEAT, CalleesBelow, book_of}
 use Rattle.scope.specs.Flattening.{line_length, flat_length, start, copy_line, copy, flat_program, most_flat_lines}
 use Rattle.scope.proofs.TakenBook.{taken_book, taken_callees_below, line_in_the_book}
 use Rattle.scope.proofs.FlatLines.{first_start, next_start, start_within, Stands, whole_copy_stands, line_stands, repeat_looks, repeated_copy_stands, repeat_goes_back}
@@ -30,7 +30,6 @@ use Rattle.flatten.specs.declared.copying.Place.{Place}
 use Rattle.flatten.specs.declared.copying.Pasted.{Pasted}
 use Rattle.flatten.specs.declared.copying.Inside.{Inside}
 use Rattle.flatten.specs.declared.copying.Inside.TheVariants as inside
-use Rattle.flatten.specs.Rows.{Table}
 use Rattle.flatten.specs.Copies.{CopyWithin, InTheCopy, InTheLine, LineAround, HasCopy, LiesIn, ComesTo, PastedAt, DeeperThere, InsideIs}
 
 -- ---- what stands there
@@ -255,14 +254,14 @@ module _ (b : List ℕ) (asked : ℕ) (whole : CopyWithin b asked 0) where
         has_copy = whole_copy_stands (book_of b) asked;
       })
 
-  module _ (p : ℕ) (below : p < flat_length (book_of b) asked) where
-    pub in_the_top : (top : Place) → top ≡ record { routine = asked; base = record { 0 = 0 }; line = record { 0 = 0 } }
-        → InTheCopy b top.routine top.base.0 p
-    in_the_top top e = rw e (record { copy_within = whole; from = omega arith; to = omega (arith, below) })
+  pub in_the_top : (top : Place) (p n : ℕ) → top ≡ record { routine = asked; base = record { 0 = 0 }; line = record { 0 = 0 } }
+      → n ≡ flat_length (book_of b) asked → p < n → InTheCopy b top.routine top.base.0 p
+  in_the_top top p n e size below =
+      rw e (record { copy_within = whole; from = omega arith; to = omega (arith, size, below) })
 
-    pub lies_in_the_top : (top at : Place) → top ≡ record { routine = asked; base = record { 0 = 0 }; line = record { 0 = 0 } }
-        → LineAround b top p at → LiesIn flat b at p
-    lies_in_the_top top at e = lies_around flat b top p at (rw e (whole_copy_stands (book_of b) asked))
+  pub lies_in_the_top : (top at : Place) (p : ℕ) → top ≡ record { routine = asked; base = record { 0 = 0 }; line = record { 0 = 0 } }
+      → LineAround b top p at → LiesIn flat b at p
+  lies_in_the_top top at p e = lies_around flat b top p at (rw e (whole_copy_stands (book_of b) asked))
 
 -- The line that starts at p is the one in which p lies, if it ends behind p.
 pub lies_here : (P : Program) (b : List ℕ) (here : Place) (p n end : ℕ) → ComesTo P b here p → n ≡ count b here.routine → here.line.0 < n
@@ -278,25 +277,13 @@ lies_here P b here p n end c size h e s =
       has_copy = c.has_copy;
     }
 
--- At every turn flat line p lies in a line of a copy that stands in the program. (Of the lines seen nothing is asked but that each routine has
--- its own: a guess is tried before it is taken.)
-pub record Looking (P : Program) (b starts : List ℕ) (at : Place) (p : ℕ) (seen₀ seen : List RoutineLine) : Type 0 where
-  pub table : Table b starts
-  pub lies_in : LiesIn P b at p
-  pub a_line_each : length seen ≡ most_routines
-  pub as_many : length seen ≡ length seen₀
-
-pub looks_first : (P : Program) (b starts : List ℕ) (at : Place) (p : ℕ) (lent seen : List RoutineLine) → Table b starts → LiesIn P b at p
-    → length lent ≡ most_routines → length seen ≡ length lent → Looking P b starts at p seen seen
-looks_first P b starts at p lent seen T s long same = record { table = T; lies_in = s; a_line_each = same ∙ long; as_many = refl }
-
-module _ (P : Program) (b starts : List ℕ) (at : Place) (p : ℕ) (seen₀ seen : List RoutineLine) (s : Looking P b starts at p seen₀ seen) (found : Inside)
-    (is : InsideIs b at.routine at.base.0 p found) where
+-- Flat line p lies in the place's line, and this is found there.
+module _ (P : Program) (b : List ℕ) (at : Place) (p : ℕ) (s : LiesIn P b at p) (found : Inside) (is : InsideIs b at.routine at.base.0 p found) where
   pub pasted_there : {x : Pasted} → found ≡ inside.Stands x → PastedAt P b p x
   unfolding InsideIs
   pasted_there e =
       let f = rw e at is in
-      f.pasted P s.lies_in.has_copy
+      f.pasted P s.has_copy
 
   module _ {inner : Place} (e : found ≡ inside.Deeper inner) where
     there : DeeperThere b at.routine at.base.0 p inner
@@ -307,14 +294,8 @@ module _ (P : Program) (b starts : List ℕ) (at : Place) (p : ℕ) (seen₀ see
     in_the_inner = there.in_the_copy
 
     module _ (next : Place) (around : LineAround b inner p next) where
-      pub looks_deeper : (seen' : List RoutineLine) → length seen' ≡ length seen → Looking P b starts next p seen₀ seen'
-      looks_deeper seen' same =
-          record {
-            table = s.table;
-            lies_in = lies_around P b inner p next (there.has_copy P s.lies_in.has_copy) around;
-            a_line_each = same ∙ s.a_line_each;
-            as_many = same ∙ s.as_many;
-          }
+      pub looks_deeper : LiesIn P b next p
+      looks_deeper = lies_around P b inner p next (there.has_copy P s.has_copy) around
 
       pub falls : next.routine < at.routine
       falls = rw around.same_routine there.lower

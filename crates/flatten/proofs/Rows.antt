@@ -2,17 +2,19 @@
 -- A routine uses lower ones only, so what it looks up is there; the parts of the table lie one behind the other. Assumes nothing.
 use mir.Syntax.{w32, w64}
 use mir.Val.{Fits}
-use Prim.Native.Nat.{ℕ, ◌+◌, ◌*◌, ◌<◌, ◌≤◌, min}
+use Prim.Native.Nat.{ℕ, ◌+◌, ◌-◌, ◌*◌, ◌<◌, ◌≤◌, min}
 use native.Mathlib.Omega.{arith}
 use native.Mathlib.Decide.{ℕ_discrete}
 use native.Mathlib.Numerals.{add-one}
 use mathlib.Core.Path.{◌≡◌, refl, sym, ◌∙◌, ap}
-use mathlib.Core.Logic.{◌⊎◌, ⊎_elim}
+use mathlib.Core.Logic.{◌⊎◌, inl, inr, ⊎_elim}
 use mathlib.Core.List.{List}
-use lib.ListN.{length, get_or, set, length-set}
-use lib.Seq.{get_or-set_same, get_or-set_other}
+use lib.ListN.{length, get_or, set, drop, length-set, length-drop}
+use lib.Seq.{get_or-set_same, get_or-set_other, get_or-take, get_or-drop, length-take-le}
+use borrow.Rule.Slice.PartMut.{mid_of}
+use Rattle.std.proofs.lemmas.List.{get_or_default}
 use Rattle.scope.specs.Book as book
-use Rattle.scope.specs.Book.{most_routines, routines, line_table_due, length_due, first_line, first_line_due, count, line_of, fields_in, book_of}
+use Rattle.scope.specs.Book.{most_routines, routines, first_line, first_line_due, count, line_of, fields_in, book_of}
 use Rattle.scope.specs.Flattening.{line_length, flat_length, start}
 use Rattle.scope.proofs.Verdicts.{one_holds, below_tells}
 use Rattle.scope.proofs.TakenBook.{taken_book, taken_callees_below, line_in_the_book, routine_ends}
@@ -22,10 +24,10 @@ use Rattle.book.specs.declared.lines.Reg.{Reg}
 use Rattle.book.specs.declared.lines.Line.{Line}
 use Rattle.book.specs.declared.lines.Line.TheVariants as line
 use Rattle.book.specs.Told.{line_told}
-use Rattle.book.specs.Asked.{TakenWith, EntryWithin}
+use Rattle.book.specs.Asked.{TakenWith}
 use Rattle.book.proofs.Scanned.{below_R}
-use Rattle.book.proofs.Fits.{holds_of_the_line, CALL_below, REPEAT_below, callee_below}
-use Rattle.flatten.specs.Rows.{length_cap, Known, Row, slot, due, table_length, Filled, Measured, Table, MeasuredAll}
+use Rattle.book.proofs.Fits.{holds_of_the_line, callee_below}
+use Rattle.flatten.specs.Rows.{length_cap, Known, Row, slot, due, table_length, Filled, Measured, Table, MeasuredAll, StartsOf}
 
 -- ---- a row
 
@@ -45,11 +47,6 @@ module _ {A : Type 0} (none : A) (Is : ℕ → A → Type 0) (row : List A) wher
       put c low (yes same) = rw (same, get_or-set_same row k a none (omega (arith, h, w.long))) e
       put c low (no other) = rw (get_or-set_other row k c a none other) (w.each c (omega (arith, low, other)))
 
-  -- .. a routine below another one of the book
-  pub one_more_below : (b : List ℕ) (c : Counts) → TakenWith b c → (r : ℕ) → r < c.routines → (k : ℕ) (a : A) → Known none Is k row → k < r → Is k a
-      → Known none Is (k + 1) (set row k a)
-  one_more_below b c t r h k a w g e = one_more_routine k a w (omega (arith, g, h, t.tabled.sized.routines_to_32)) e
-
 -- Line j of routine k is l, and the row has what is said of the routines below k: so it has what is said of the one that the line uses.
 module _ (b : List ℕ) (c : Counts) (l : Line) (k j : ℕ) (t : TakenWith b c) (h : k < c.routines) (s : j < count b k)
     (e : line_told l ≡ line_of (fields_in b k j)) where
@@ -63,20 +60,24 @@ module _ (b : List ℕ) (c : Counts) (l : Line) (k j : ℕ) (t : TakenWith b c) 
   length_is = said_of_the_line (line_length (flat_length (book_of b))) length_cap
 
   module _ {A : Type 0} (none : A) (Is : ℕ → A → Type 0) (row : List A) (w : Known none Is k row) where
+    module _ {q : ℕ} (d : (l ≡ line.Call q) ⊎ ((g : Reg) × (l ≡ line.Repeat g q))) where
+      pub callee_in_the_row : q < length row
+      callee_in_the_row = has_a_place none Is row k _ b c t w (omega (arith, callee_below b c l k j t h s e d, h))
+
+      pub callee_looked_up : Is q (get_or row q none)
+      callee_looked_up = w.each _ (callee_below b c l k j t h s e d)
+
     pub CALL_in_the_row : {q : ℕ} → l ≡ line.Call q → q < length row
-    CALL_in_the_row d = has_a_place none Is row k _ b c t w (omega (arith, CALL_below b c l k j t h s e d, h))
+    CALL_in_the_row d = callee_in_the_row (inl d)
 
     pub REPEAT_in_the_row : {g : Reg} {q : ℕ} → l ≡ line.Repeat g q → q < length row
-    REPEAT_in_the_row d = has_a_place none Is row k _ b c t w (omega (arith, REPEAT_below b c l k j t h s e d, h))
-
-    pub callee_in_the_row : {q : ℕ} → (l ≡ line.Call q) ⊎ ((g : Reg) × (l ≡ line.Repeat g q)) → q < length row
-    callee_in_the_row d = has_a_place none Is row k _ b c t w (omega (arith, callee_below b c l k j t h s e d, h))
+    REPEAT_in_the_row d = callee_in_the_row (inr (_, d))
 
     pub CALL_looked_up : {q : ℕ} → l ≡ line.Call q → Is q (get_or row q none)
-    CALL_looked_up d = w.each _ (CALL_below b c l k j t h s e d)
+    CALL_looked_up d = callee_looked_up (inl d)
 
     pub REPEAT_looked_up : {g : Reg} {q : ℕ} → l ≡ line.Repeat g q → Is q (get_or row q none)
-    REPEAT_looked_up d = w.each _ (REPEAT_below b c l k j t h s e d)
+    REPEAT_looked_up d = callee_looked_up (inr (_, d))
 
   -- CALL the length of the routine; REPEAT that length plus 2.
   module _ (row : List ℕ) (w : Row (flat_length (book_of b)) length_cap k row) where
@@ -138,32 +139,24 @@ module _ (b : List ℕ) (c : Counts) (k : ℕ) (t : TakenWith b c) (h : k < c.ro
 -- The first j of routine k's n lines are measured: they are sum lines long, and where each starts is in the table.
 pub record Summing (b : List ℕ) (k n at j sum : ℕ) (starts : List ℕ) : Type 0 where
   pub upto : j ≤ n
-  pub long : length starts ≡ table_length
   pub room : at + n < table_length
   pub so_far : sum ≡ min (start (book_of b) k j) length_cap
   pub filled : Filled b (slot b k j) starts
 
-pub as_long_as_lent : (xs ys : List ℕ) (i v m : ℕ) → length xs ≡ m → length ys ≡ m → length (set xs i v) ≡ length ys
-as_long_as_lent xs ys i v m e f = length-set xs i v ∙ e ∙ sym f
-
-pub line_is_there : (b : List ℕ) (k n j : ℕ) → n ≡ count b k → j < n → j < count b k
-line_is_there b k n j size h = omega (arith, size, h)
-
 module _ (b : List ℕ) (c : Counts) (k n : ℕ) (t : TakenWith b c) (h : k < c.routines) (size : n ≡ count b k) (at : ℕ) (place : at ≡ slot b k 0) where
-  pub nothing_summed : (starts : List ℕ) → length starts ≡ table_length → Filled b (due b k) starts → Summing b k n at 0 0 starts
+  pub nothing_summed : (starts : List ℕ) → Filled b (due b k) starts → Summing b k n at 0 0 starts
   unfolding slot due
-  nothing_summed starts long f =
+  nothing_summed starts f =
       let T = taken_book b t.taken in
       let first : first_line_due b k + k ≡ first_line b k + k + 0 = omega (arith, T.starts_where_due k (here b c k t h)) in
       record {
         upto = omega arith;
-        long = long;
         room = omega (arith, place, size, h, T.ends_within k (here b c k t h), T.header.lines_to_4096, t.tabled.sized.routines_to_32);
         so_far = rw (first_start (book_of b) k) refl;
         filled = rw first at f;
       }
 
-  module _ (j sum : ℕ) (starts : List ℕ) (s : Summing b k n at j sum starts) where
+  module _ (j sum : ℕ) (starts : List ℕ) (s : Summing b k n at j sum starts) (long : length starts ≡ table_length) where
     slot_j : at + j ≡ slot b k j
     unfolding slot
     slot_j = omega (arith, place)
@@ -172,7 +165,7 @@ module _ (b : List ℕ) (c : Counts) (k n : ℕ) (t : TakenWith b c) (h : k < c.
     within = omega (arith, s.upto, size)
 
     filled_on : Filled b (slot b k j + 1) (set starts (at + j) sum)
-    filled_on = one_more_start b c k t h j (at + j) sum starts within (omega (arith, s.upto, s.long, s.room)) s.filled slot_j s.so_far
+    filled_on = one_more_start b c k t h j (at + j) sum starts within (omega (arith, s.upto, long, s.room)) s.filled slot_j s.so_far
 
     pub one_more_summed : (sum' : ℕ) → j < n → sum' ≡ min (start (book_of b) k (j + 1)) length_cap
         → Summing b k n at (j + 1) sum' (set starts (at + j) sum)
@@ -181,7 +174,6 @@ module _ (b : List ℕ) (c : Counts) (k n : ℕ) (t : TakenWith b c) (h : k < c.
         let next : first_line b k + k + j + 1 ≡ first_line b k + k + (j + 1) = omega arith in
         record {
           upto = omega (arith, g);
-          long = length-set starts (at + j) sum ∙ s.long;
           room = s.room;
           so_far = more;
           filled = rw next at filled_on;
@@ -246,30 +238,44 @@ module _ (b : List ℕ) (c : Counts) (t : TakenWith b c) (k : ℕ) (lengths star
 
 -- ---- reading the table
 
-module _ (b starts : List ℕ) (T : Table b starts) (k i : ℕ) (h : k < routines b) where
-  pub entry_there : EntryWithin b k
-  unfolding length_due line_table_due
-  entry_there = record { in_the_bytes = omega (arith, h, (taken_book b T.taken).header.length_as_due) }
+module _ (b starts : List ℕ) (T : Table b starts) (k i : ℕ) (h : k < routines b) (at : ℕ) (place : at ≡ slot b k 0) (s : i ≤ count b k) where
+  slot_i : slot b k i ≡ at + i
+  unfolding slot
+  slot_i = omega (arith, place)
 
-  module _ (at : ℕ) (place : at ≡ slot b k 0) (s : i ≤ count b k) where
-    slot_i : slot b k i ≡ at + i
-    unfolding slot
-    slot_i = omega (arith, place)
+  pub start_there : at + i < table_length
+  unfolding slot
+  start_there =
+      let B = taken_book b T.taken in
+      omega (arith, place, s, h, T.long, B.ends_within k h, B.header.routines_to_32, B.header.lines_to_4096)
 
-    pub start_there : at + i < length starts
-    unfolding slot
-    start_there =
-        let B = taken_book b T.taken in
-        omega (arith, place, s, h, T.long, B.ends_within k h, B.header.routines_to_32, B.header.lines_to_4096)
+  pub slot_fits : Fits w64 (at + i)
+  slot_fits = record { fits = omega (arith, start_there, T.long) }
 
-    pub slot_fits : Fits w64 (at + i)
-    slot_fits = record { fits = omega (arith, start_there, T.long) }
+  pub slot_bytes_fit : Fits w64 ((at + i) * 4)
+  slot_bytes_fit = record { fits = omega (arith, start_there, T.long) }
 
-    pub slot_bytes_fit : Fits w64 ((at + i) * 4)
-    slot_bytes_fit = record { fits = omega (arith, start_there, T.long) }
+  pub start_read : get_or starts (at + i) 0 ≡ min (start (book_of b) k i) length_cap
+  start_read = rw slot_i at (T.each k i h s)
 
-    pub start_read : get_or starts (at + i) 0 ≡ min (start (book_of b) k i) length_cap
-    start_read = rw slot_i at (T.each k i h s)
+-- The part of the table that has the starts of routine k's n lines.
+module _ (b starts : List ℕ) (T : Table b starts) (k : ℕ) (h : k < routines b) (at : ℕ) (place : at ≡ slot b k 0) (n : ℕ) (size : n ≡ count b k) where
+  pub part_there : at + n < table_length
+  part_there = start_there b starts T k n h at place (omega (arith, size))
 
-    pub start_fits : Fits w64 (get_or starts (at + i) 0)
-    start_fits = record { fits = omega (arith, start_read) }
+  pub part_end_fits : Fits w64 (at + n)
+  part_end_fits = record { fits = omega (arith, part_there) }
+
+  pub part_bytes_fit : Fits w64 (at * 4)
+  part_bytes_fit = record { fits = omega (arith, part_there) }
+
+  pub starts_in_part : StartsOf b k (mid_of at (at + n - at) starts)
+  starts_in_part =
+      record {
+        long = length-take-le (at + n - at) (drop at starts) (omega (arith, T.long, part_there, length-drop at starts)) ∙ omega (arith, size);
+        each = λ i d g.
+            get_or-take (at + n - at) (drop at starts) i d (omega (arith, g, size))
+            ∙ get_or-drop at starts i d
+            ∙ get_or_default starts (at + i) d 0 (omega (arith, T.long, part_there, g, size))
+            ∙ start_read b starts T k i h at place (omega (arith, g));
+      }

@@ -45,6 +45,11 @@ pub record Table (b : List ℕ) (starts : List ℕ) : Type 0 where
   pub long : length starts ≡ table_length
   pub each : (r i : ℕ) → r < routines b → i ≤ count b r → get_or starts (slot b r i) 0 ≡ min (start (book_of b) r i) length_cap
 
+-- These are the starts of routine k's lines.
+pub record StartsOf (b : List ℕ) (k : ℕ) (starts : List ℕ) : Type 0 where
+  pub long : length starts ≡ count b k
+  pub each : (i d : ℕ) → i < count b k → get_or starts i d ≡ min (start (book_of b) k i) length_cap
+
 -- Every routine is measured.
 pub record MeasuredAll (b lengths starts : List ℕ) : Type 0 where
   pub lengths_are : Row (flat_length (book_of b)) length_cap (routines b) lengths

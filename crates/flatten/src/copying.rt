@@ -3,7 +3,7 @@
 // halvings whatever the book. A routine of length 0 is never opened. Where a line follows the last one in its copy nothing is searched, and
 // else a guess is tried before a line is searched.
 ghost use Rattle.std.specs.Prelude.{◌≡◌, ◌+◌, ◌<◌, ◌≤◌, length};
-ghost use Rattle.scope.specs.Book.{most_routines, most_lines, count, REPEAT, line_of, fields_in, book_of};
+ghost use Rattle.scope.specs.Book.{most_lines, count, REPEAT, line_of, fields_in, book_of};
 ghost use Rattle.scope.specs.Flattening.{flat_length, start, flat_program, flat_book, flat_book_bytes, at_the_front_of};
 ghost use Rattle.book.specs.Written.{with_lines};
 ghost use Rattle.flatten.specs.declared.copying.Inside.TheVariants.{Stands};
@@ -82,24 +82,17 @@ fn moved(starts: &Starts, at: Place, target: RoutineLine) -> FlatLine
     FlatLine(at.base.0 + starts.start_of(at.routine, target))
 }
 
-// The line of a copy in which flat line p lies, by halving. A line of length 0 has no flat line, so it is never found.
+// The line of a copy in which flat line p lies, by halving: the last that starts at or before p. Where a line of length 0 starts the one
+// behind it starts too, so it is never found.
 fn halve(starts: &Starts, copy: Place, p: FlatLine) -> RoutineLine
     requires { InTheCopy starts.now.book.bytes.now copy.routine copy.base.0 p.0 }
     ensures { InTheLine starts.now.book.bytes.now copy.routine copy.base.0 result.0 p.0 }
 {
-    let k = copy.routine;
     let x = p.0 - copy.base.0;
-    let mut low: u16 = 0;
-    let mut high = starts.book.count(k);
-    while low + 1 < high {
-        let middle = (low + high) / 2;
-        if x < starts.start_of(k, RoutineLine(middle)) {
-            high = middle;
-        } else {
-            low = middle;
-        }
-    }
-    RoutineLine(low)
+    let behind = starts
+        .of(copy.routine)
+        .partition_point(|s| *s as usize <= x);
+    RoutineLine((behind - 1) as u16)
 }
 
 // A REPEAT of register j that starts at p, over length s, becomes DEC j to p+s+2, the copy from p+1, then GO TO p at p+s+1.
@@ -156,9 +149,8 @@ fn line_around(starts: &Starts, guess: Place, p: FlatLine) -> Place
 }
 
 // The line of a copy in which flat line p lies. `seen` has for each routine the line in which it was found last: there it often is again.
-fn open(starts: &Starts, copy: Place, p: FlatLine, seen: &mut [RoutineLine]) -> Place
+fn open(starts: &Starts, copy: Place, p: FlatLine, seen: &mut [RoutineLine; ROW]) -> Place
     requires in_the_copy { InTheCopy starts.now.book.bytes.now copy.routine copy.base.0 p.0 }
-    requires seen_len { length seen.old ≡ most_routines }
     ensures { LineAround starts.now.book.bytes.now copy p.0 result }
 {
     let k = copy.routine as usize;
@@ -171,81 +163,78 @@ fn open(starts: &Starts, copy: Place, p: FlatLine, seen: &mut [RoutineLine]) -> 
     at
 }
 
-// The line in which flat line p lies: the one that starts there or, where that is empty or the copy is at its end, one found from the top.
-fn around(
-    starts: &Starts,
-    routine: u16,
-    here: Place,
-    p: FlatLine,
-    seen: &mut [RoutineLine],
-) -> Place
-    requires copy_within { CopyWithin starts.now.book.bytes.now routine 0 }
-    requires comes_to { ComesTo (flat_program (book_of starts.now.book.bytes.now) routine) starts.now.book.bytes.now here p.0 }
-    requires p_bound { p.0 < flat_length (book_of starts.now.book.bytes.now) routine }
-    requires seen_len { length seen.old ≡ most_routines }
-    ensures { LiesIn (flat_program (book_of starts.now.book.bytes.now) routine) starts.now.book.bytes.now result p.0 }
-{
-    if here.line.0 < starts.book.count(here.routine) {
-        let end = moved(starts, here, RoutineLine(here.line.0 + 1));
-        if p.0 < end.0 {
-            return here;
-        }
-    }
-    open(starts, Place::first(routine, FlatLine(0)), p, seen)
+// A routine that passed its tests, with its book's table of starts. It has n flat lines.
+#[derive(Clone, Copy)]
+pub(crate) struct Asked<'a> {
+    pub(crate) starts: Starts<'a>,
+    pub(crate) routine: u16,
+    pub(crate) n: usize,
+    pub(crate) ghost fits: { CopyWithin starts.book.bytes.now routine 0 },
+    pub(crate) ghost size: { n ≡ flat_length (book_of starts.book.bytes.now) routine },
 }
 
-// What stands at flat line p. The routine falls at each turn.
-fn paste_at(
-    starts: &Starts,
-    routine: u16,
-    here: Place,
-    p: FlatLine,
-    seen: &mut [RoutineLine],
-) -> Pasted
-    requires copy_within { CopyWithin starts.now.book.bytes.now routine 0 }
-    requires comes_to { ComesTo (flat_program (book_of starts.now.book.bytes.now) routine) starts.now.book.bytes.now here p.0 }
-    requires p_bound { p.0 < flat_length (book_of starts.now.book.bytes.now) routine }
-    requires seen_len { length seen.old ≡ most_routines }
-    ensures { PastedAt (flat_program (book_of starts.now.book.bytes.now) routine) starts.now.book.bytes.now p.0 result }
-{
-    let mut at = around(starts, routine, here, p, seen);
-    loop {
-        let found = look_inside(starts, at, p);
-        match found {
-            Inside::Stands(x) => {
-                return x;
-            }
-            Inside::Deeper(copy) => {
-                at = open(starts, copy, p, seen);
+impl Asked<'_> {
+    // The line in which flat line p lies: the one that starts there, or one found from the top if that is empty or the copy is at its end.
+    fn around(&self, here: Place, p: FlatLine, seen: &mut [RoutineLine; ROW]) -> Place
+        requires comes_to { ComesTo (flat_program (book_of self.now.starts.book.bytes.now) self.now.routine) self.now.starts.book.bytes.now here p.0 }
+        requires p_bound { p.0 < self.now.n }
+        ensures { LiesIn (flat_program (book_of self.now.starts.book.bytes.now) self.now.routine) self.now.starts.book.bytes.now result p.0 }
+    {
+        if here.line.0 < self.starts.book.count(here.routine) {
+            let end = moved(&self.starts, here, RoutineLine(here.line.0 + 1));
+            if p.0 < end.0 {
+                return here;
             }
         }
+        open(
+            &self.starts,
+            Place::first(self.routine, FlatLine(0)),
+            p,
+            seen,
+        )
     }
-}
 
-// Writes the n flat lines of a routine, one behind the other.
-fn put_lines(starts: &Starts, routine: u16, n: usize, out: &mut [u8])
-    requires copy_within { CopyWithin starts.now.book.bytes.now routine 0 }
-    requires n_value { n ≡ flat_length (book_of starts.now.book.bytes.now) routine }
-    requires n_in_bounds { flat_book_bytes n ≤ length out.old }
-    ensures { out.new ≡ with_lines out.old n (flat_program (book_of starts.now.book.bytes.now) routine) }
-{
-    let mut seen = [RoutineLine(0); ROW];
-    let mut here = Place::first(routine, FlatLine(0));
-    for p in 0..n {
-        let found = paste_at(starts, routine, here, FlatLine(p), &mut seen);
-        let x = found.instruction;
-        put_line(out, FlatLine(p), x);
-        here = found.behind;
+    // What stands at flat line p. The routine falls at each turn.
+    fn paste_at(&self, here: Place, p: FlatLine, seen: &mut [RoutineLine; ROW]) -> Pasted
+        requires comes_to { ComesTo (flat_program (book_of self.now.starts.book.bytes.now) self.now.routine) self.now.starts.book.bytes.now here p.0 }
+        requires p_bound { p.0 < self.now.n }
+        ensures { PastedAt (flat_program (book_of self.now.starts.book.bytes.now) self.now.routine) self.now.starts.book.bytes.now p.0 result }
+    {
+        let mut at = self.around(here, p, seen);
+        loop {
+            let found = look_inside(&self.starts, at, p);
+            match found {
+                Inside::Stands(x) => {
+                    return x;
+                }
+                Inside::Deeper(copy) => {
+                    at = open(&self.starts, copy, p, seen);
+                }
+            }
+        }
     }
-}
 
-// Writes the flat book of a routine: its header and then its lines.
-pub(crate) fn put_book(starts: &Starts, routine: u16, n: usize, out: &mut [u8])
-    requires copy_within { CopyWithin starts.now.book.bytes.now routine 0 }
-    requires n_value { n ≡ flat_length (book_of starts.now.book.bytes.now) routine }
-    requires n_in_bounds { flat_book_bytes n ≤ length out.old }
-    ensures { out.new ≡ at_the_front_of out.old (flat_book (flat_program (book_of starts.now.book.bytes.now) routine)) }
-{
-    put_header(out, n as u16);
-    put_lines(starts, routine, n, out);
+    // Writes its flat lines, one behind the other.
+    fn put_lines(&self, out: &mut [u8])
+        requires { flat_book_bytes self.now.n ≤ length out.old }
+        ensures { out.new ≡ with_lines out.old self.now.n (flat_program (book_of self.now.starts.book.bytes.now) self.now.routine) }
+    {
+        let mut seen = [RoutineLine(0); ROW];
+        let mut here = Place::first(self.routine, FlatLine(0));
+        for p in 0..self.n {
+            let found = self.paste_at(here, FlatLine(p), &mut seen);
+            let x = found.instruction;
+            put_line(out, FlatLine(p), x);
+            here = found.behind;
+        }
+    }
+
+    // Writes its flat book: the header and then the lines.
+    pub(crate) fn put_book(&self, out: &mut [u8])
+        requires { flat_book_bytes self.now.n ≤ length out.old }
+        ensures { out.new ≡ at_the_front_of out.old (flat_book (flat_program (book_of self.now.starts.book.bytes.now) self.now.routine)) }
+    {
+        put_header(out, self.n as u16);
+        self.put_lines(out);
+    }
 }

@@ -1,8 +1,8 @@
 // How long each routine is when it is flattened, and where each of its lines starts: from the lowest routine up, one look at each line.
-ghost use Rattle.std.specs.Prelude.{◌≡◌, ◌+◌, ◌<◌, ◌≤◌, min, length};
+ghost use Rattle.std.specs.Prelude.{◌≡◌, ◌+◌, ◌<◌, ◌≤◌, min};
 ghost use Rattle.scope.specs.Book.{routines, count, line_of, fields_in, book_of};
 ghost use Rattle.scope.specs.Flattening.{line_length, flat_length, start};
-ghost use Rattle.flatten.specs.Rows.{length_cap, Row, slot, due, table_length, Filled, Measured, Table, MeasuredAll};
+ghost use Rattle.flatten.specs.Rows.{length_cap, Row, slot, due, Filled, Measured, Table, MeasuredAll, StartsOf};
 
 use book::header::{MOST_LINES, MOST_ROUTINES};
 use book::lines::{Line, RoutineLine};
@@ -53,10 +53,9 @@ fn part(b: &Book, k: u16) -> usize
 }
 
 // Puts routine k's starts in the table; the last is its length.
-fn measure(b: &Book, k: u16, lengths: &[u32], starts: &mut [u32]) -> u32
+fn measure(b: &Book, k: u16, lengths: &[u32], starts: &mut [u32; TABLE]) -> u32
     requires k_lt_routines { k < b.now.counts.routines }
     requires row { Row (flat_length (book_of b.now.bytes.now)) length_cap k lengths.now }
-    requires starts_len { length starts.old ≡ table_length }
     requires filled { Filled b.now.bytes.now (due b.now.bytes.now k) starts.old }
     ensures { Measured b.now.bytes.now k result starts.new }
 {
@@ -72,8 +71,7 @@ fn measure(b: &Book, k: u16, lengths: &[u32], starts: &mut [u32]) -> u32
 }
 
 // The row of lengths and the table of starts, from the lowest routine up.
-pub(crate) fn measured(b: &Book, starts: &mut [u32]) -> [u32; ROW]
-    requires starts_len { length starts.old ≡ table_length }
+pub(crate) fn measured(b: &Book, starts: &mut [u32; TABLE]) -> [u32; ROW]
     ensures { MeasuredAll b.now.bytes.now result starts.new }
 {
     let routines = b.counts.routines;
@@ -88,11 +86,20 @@ pub(crate) fn measured(b: &Book, starts: &mut [u32]) -> [u32; ROW]
 #[derive(Clone, Copy)]
 pub(crate) struct Starts<'a> {
     pub(crate) book: Book<'a>,
-    pub(crate) table: &'a [u32],
+    pub(crate) table: &'a [u32; TABLE],
     pub(crate) ghost filled: { Table book.bytes.now table.now },
 }
 
 impl Starts<'_> {
+    // The starts of routine k's lines, as they stand in the table.
+    pub(crate) fn of(&self, k: u16) -> &[u32]
+        requires { k < routines self.now.book.bytes.now }
+        ensures { StartsOf self.now.book.bytes.now k result.now }
+    {
+        let at = part(&self.book, k);
+        &self.table[at..at + self.book.count(k) as usize]
+    }
+
     // Where line i of routine k starts, or its end, as it stands in the table.
     pub(crate) fn start_of(&self, k: u16, i: RoutineLine) -> usize
         requires k_bound { k < routines self.now.book.bytes.now }

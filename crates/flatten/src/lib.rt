@@ -16,6 +16,7 @@ use book::flat::FLAT_HEADER_BYTES;
 use book::header::LINE_BYTES;
 use book::reader::Book;
 use book::refusals::{Name, Refusal};
+use copying::Asked;
 use lengths::{MOST_FLAT_LINES, Starts, TABLE};
 
 // Then: flattening 12, 11, 13; quote 12, 11, 13. 12 NO ROUTINE: asked routine not below R. 13 TOO LONG: flat length above 4,096.
@@ -43,14 +44,19 @@ fn flatten_taken(b: &Book, routine: usize, out: &mut [u8]) -> Result<usize, Refu
     let mut table = [0u32; TABLE];
     let lengths = lengths::measured(b, &mut table);
     let n = flattens(b, routine, &lengths)?;
-    if out.len() < FLAT_HEADER_BYTES + LINE_BYTES * n {
-        return Err(Refusal::of(Name::NoRoom));
-    }
     let starts = Starts {
         book: *b,
         table: &table,
     };
-    copying::put_book(&starts, routine as u16, n, out);
+    let asked = Asked {
+        starts,
+        routine: routine as u16,
+        n,
+    };
+    if out.len() < FLAT_HEADER_BYTES + LINE_BYTES * n {
+        return Err(Refusal::of(Name::NoRoom));
+    }
+    asked.put_book(out);
     Ok(n)
 }
 

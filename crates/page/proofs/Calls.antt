@@ -98,7 +98,7 @@ module _ (b bytes : List ℕ) (start budget : ℕ) where
     answered = ap (λ c. c.answer) ran_so
 
     pub run_is_refused : {x : Refusal} → r ≡ Err x → record { fields = run_told a; left = bytes } ≡ page_run b start bytes budget
-    unfolding page_run_call book.answer_told
+    unfolding page_run_call book.result_told
     run_is_refused e =
         gets a
         (refusal_writes_nothing _ _ bytes ((refused_exactly_when _ _ _).0 (sym answered ∙ ap ran_told e)))
@@ -106,7 +106,7 @@ module _ (b bytes : List ℕ) (start budget : ℕ) where
 
     pub run_is_done : {d : Answer} (bytes' : List ℕ) → r ≡ Ok d → bytes' ≡ two_bytes_each rs'
         → record { fields = run_told a; left = bytes' } ≡ page_run b start bytes budget
-    unfolding page_run_call book.answer_told
+    unfolding page_run_call book.result_told
     run_is_done bytes' e put =
         let (passes, same) = accepted_only_where_passed verdict (sym answered ∙ ap ran_told e) in
         let kept : rs' ≡ ended.registers = ap (λ c. c.left) (ran_so ∙ call_where_passed _ _ _ passes) in

@@ -40,7 +40,7 @@ pub struct QuoteAnswer {
 impl From<Result<usize, Refusal>> for FlattenAnswer {
     ghost from_gives = { λ flattened fields. flatten_told fields ≡ flatten_fields (number_told flattened) };
 
-    #[tactic(auto, unfolding(crate::specs::Told::flatten_told, scope::specs::Page::flatten_fields, book::specs::Told::answer_told, book::specs::Told::refusal_told))]
+    #[tactic(auto, unfolding(crate::specs::Told::flatten_told, scope::specs::Page::flatten_fields, book::specs::Told::result_told, book::specs::Told::refusal_told))]
     fn from(flattened: Result<usize, Refusal>) -> FlattenAnswer {
         match flattened {
             Err(x) => FlattenAnswer {
@@ -84,7 +84,7 @@ fn full_register(o: Outcome) -> u16
 impl From<Result<Answer, Refusal>> for RunAnswer {
     ghost from_gives = { λ ran fields. run_told fields ≡ run_fields (ran_told ran) };
 
-    #[tactic(auto, unfolding(crate::specs::Told::run_told, scope::specs::Page::run_fields, unit::specs::Told::answer_told, book::specs::Told::answer_told, book::specs::Told::refusal_told))]
+    #[tactic(auto, unfolding(crate::specs::Told::run_told, scope::specs::Page::run_fields, unit::specs::Told::answer_told, book::specs::Told::result_told, book::specs::Told::refusal_told))]
     fn from(ran: Result<Answer, Refusal>) -> RunAnswer {
         match ran {
             Err(x) => RunAnswer {
@@ -111,7 +111,7 @@ impl From<Result<Answer, Refusal>> for RunAnswer {
 impl From<Result<u64, Refusal>> for QuoteAnswer {
     ghost from_gives = { λ quoted fields. quote_told fields ≡ quote_fields (number_told quoted) };
 
-    #[tactic(auto, unfolding(crate::specs::Told::quote_told, scope::specs::Page::quote_fields, book::specs::Told::answer_told, book::specs::Told::refusal_told))]
+    #[tactic(auto, unfolding(crate::specs::Told::quote_told, scope::specs::Page::quote_fields, book::specs::Told::result_told, book::specs::Told::refusal_told))]
     fn from(quoted: Result<u64, Refusal>) -> QuoteAnswer {
         match quoted {
             Err(x) => QuoteAnswer {

@@ -26,7 +26,7 @@ use Rattle.scope.proofs.GivenExactlyWhen.{given_exactly_when}
 use Rattle.scope.proofs.Answers.{quote_refused_exactly, quote_accepts}
 use Rattle.book.specs.declared.header.Counts.{Counts}
 use Rattle.book.specs.declared.refusals.Refusal.{Refusal}
-use Rattle.book.specs.Told.{refusal_told, answer_told, number_told}
+use Rattle.book.specs.Told.{refusal_told, result_told, number_told}
 use Rattle.book.specs.Asked.{TakenWith}
 use Rattle.book.proofs.Answers.{checked_refused}
 use Rattle.flatten.proofs.Answers.{refused_as_given, it_passes}
@@ -44,10 +44,10 @@ some_is_within n q e = grind (arith, nat_tests)
 
 refused_with : (b : List ℕ) (k : ℕ) (x : Refusal) {y : paper.Refusal} → refusal_told x ≡ y → GivenQuote b k y
     → number_told (Err x) ≡ quote_answer b k
-unfolding answer_told
+unfolding result_told
 refused_with b k x s g = rw s (sym ((quote_refused_exactly b k _).1 g))
 
-pub book_refused : {A : Type 0} (told : A → book.Counts) (b : List ℕ) (k : ℕ) (r : Result A Refusal) {x : Refusal} → answer_told told r ≡ check_answer b → r ≡ Err x
+pub book_refused : {A : Type 0} (told : A → book.Counts) (b : List ℕ) (k : ℕ) (r : Result A Refusal) {x : Refusal} → result_told told r ≡ check_answer b → r ≡ Err x
     → number_told (Err x) ≡ quote_answer b k
 book_refused told b k r {x} s e = refused_with b k x refl (quote_before (to_flatten_the_book ((given_exactly_when b _).0 (checked_refused b told r s e))))
 
@@ -87,7 +87,7 @@ module _ (b : List ℕ) (c : Counts) (t : TakenWith b c) (k : ℕ) (looks : Look
           over_quoted x s e = refused_with b k x s (quote_QUOTE flattens a_steady_one (none_is_above _ (sym e ∙ quoted)))
 
           pub quote_in_the_row : (q : ℕ) → get_or looks.quotes k None ≡ Some q → number_told (Ok q) ≡ quote_answer b k
-          unfolding answer_told
+          unfolding result_told
           quote_in_the_row q e =
               let (is_it, fits) = some_is_within q _ (sym e ∙ quoted) in
               ap accepted is_it ∙ sym (quote_accepts b k (record { flattens = flattens; a_steady_one = a_steady_one; not_too_high = fits }))

@@ -32,10 +32,10 @@ use Rattle.unit.specs.Told.{end_told, answer_told, ran_told, state_told}
 module _ (b : List ℕ) (start budget : ℕ) (rs : Registers) where
   refused_with : (x : Refusal) {y : paper.Refusal} → refusal_told x ≡ y → GivenRunning b (length rs ≢ register_count) start y
       → record { answer = ran_told (Err x); left = rs } ≡ run_call b start rs budget
-  unfolding book.answer_told
+  unfolding book.result_told
   refused_with x s g = rw s (sym ((run_refused_exactly b start rs budget _).1 g))
 
-  pub book_refused : {A : Type 0} (told : A → Counts) (k : Result A Refusal) {x : Refusal} → book.answer_told told k ≡ check_answer b → k ≡ Err x
+  pub book_refused : {A : Type 0} (told : A → Counts) (k : Result A Refusal) {x : Refusal} → book.result_told told k ≡ check_answer b → k ≡ Err x
       → record { answer = ran_told (Err x); left = rs } ≡ run_call b start rs budget
   book_refused told k {x} s e = refused_with x refl (running_the_book ((given_exactly_when b _).0 (checked_refused b told k s e)))
 
@@ -62,7 +62,7 @@ module _ (b : List ℕ) (start budget : ℕ) (rs : Registers) where
 
         pub run_answers : (a : Answer) (rs' : Registers) → start ≤ n → end_told a rs' ≡ flat_run (program_of b) start budget rs
             → record { answer = ran_told (Ok a); left = rs' } ≡ run_call b start rs budget
-        unfolding book.answer_told answer_told end_told run_call ran
+        unfolding book.result_told answer_told end_told run_call ran
         run_answers a rs' h e =
             ap (λ (f : End ℕ). record { answer = accepted (ran f); left = f.registers }) e
             ∙ sym (call_where_passed _ _ rs (running_passes b start (no_fault (is_not_tells (length rs) register_count)) t.taken flat (λ w. w long) (rw (sym same_n) h)))
@@ -92,14 +92,14 @@ module _ (b : List ℕ) (s : State) (r : Result Answer Refusal) (rs' : Registers
 
   pub step_refused : {x : Refusal} → r ≡ Err x
       → record { answer = ran_told r; left = state_told s } ≡ bench_call b (state_told s)
-  unfolding book.answer_told bench_call state_told
+  unfolding book.result_told bench_call state_told
   step_refused e =
       ap (λ q. record { answer = ran_told q; left = state_told s }) e
       ∙ sym (refusal_writes_nothing _ _ (state_told s) ((refused_exactly_when _ _ _).0 (sym answered ∙ ap ran_told e)))
 
   pub step_made : {a : Answer} → r ≡ Ok a
       → record { answer = ran_told (Ok a); left = state_told (record { line = a.line; regs = rs' }) } ≡ bench_call b (state_told s)
-  unfolding book.answer_told answer_told bench_call state_told state ran run_call
+  unfolding book.result_told answer_told bench_call state_told state ran run_call
   step_made {a} e =
       let (passes, same) = accepted_only_where_passed (bench_verdict b s.line.0) (sym answered ∙ ap ran_told e) in
       let runs = tested_alike b s.line.0 s.regs long ∙ passes in

@@ -46,7 +46,7 @@ unfoldable pub answer_told : machine.Answer → running.Ran
 answer_told a = record { outcome = outcome_told a.outcome; steps = a.steps; line = a.line.0 }
 
 abbrev pub ran_told : Result machine.Answer Refusal → Answer running.Ran
-ran_told = book.answer_told answer_told
+ran_told = book.result_told answer_told
 
 -- ---- the bench step
 

@@ -62,7 +62,7 @@ fn does(x: Instruction, line: FlatLine, regs: &mut [u16]) -> Result<FlatLine, Re
 }
 
 // Before each step, in this order: at line n, FINISHED; budget used up, OUT OF STEPS; INC of a register at 65,535, FULL; else the step is
-// done and counted.
+// done and counted. (It counts steps and no index: the budget is tested between the end and FULL, so it is not the loop's bound.)
 pub(crate) fn run_on(flat: &Book, start: FlatLine, regs: &mut [u16], budget: u64) -> Answer
     requires one_routine { flat.now.counts.routines ≤ 1 }
     requires start_le_lines { start.0 ≤ flat.now.counts.lines }

@@ -5,6 +5,12 @@ use Rattle.book.specs.Told.{name_told}
 use Rattle.flatten.proofs.Answers.{routine_refused, flat_length_is, routine_fits, line_bytes_fit, bytes_fit, flat_book_has_room, whole_copy_within, no_room, flat_book_there}
 use Rattle.flatten.proofs.flatten_taken.Goals as goal
 
+pub overflow_cast-asked : goal.overflow_cast-asked
+overflow_cast-asked c = search (routine_fits, c.in_ok-n.was)
+
+pub invariant_of-asked : goal.invariant_of-asked
+invariant_of-asked c = search (whole_copy_within, flat_length_is, c.in_ok-n.was)
+
 pub overflow_mul-n : goal.overflow_mul-n
 overflow_mul-n c = search (line_bytes_fit, c.in_ok-n.was)
 
@@ -15,17 +21,8 @@ pub returns-then-out-n : goal.returns-then-out-n
 unfolding name_told
 returns-then-out-n c = search (no_room, c.in_ok-n.was)
 
-pub overflow_cast-routine : goal.overflow_cast-routine
-overflow_cast-routine c = search (routine_fits, c.in_ok-n.was)
-
-pub put_book-requires-clause-copy_within : goal.put_book-requires-clause-copy_within
-put_book-requires-clause-copy_within c = search (whole_copy_within, c.in_ok-n.was)
-
-pub put_book-requires-clause-n_value : goal.put_book-requires-clause-n_value
-put_book-requires-clause-n_value c = search (flat_length_is, c.in_ok-n.was)
-
-pub put_book-requires-clause-n_in_bounds : goal.put_book-requires-clause-n_in_bounds
-put_book-requires-clause-n_in_bounds c = search (flat_book_has_room, c.in_ok-n.was)
+pub put_book-requires : goal.put_book-requires
+put_book-requires c = search (flat_book_has_room, c.in_ok-n.was)
 
 pub returns-in_err-n : goal.returns-in_err-n
 returns-in_err-n c = search (rules, routine_refused)

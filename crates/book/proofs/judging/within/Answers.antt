@@ -8,9 +8,9 @@ pub returns-then-kind-ge-KINDS : goal.returns-then-kind-ge-KINDS
 unfolding within
 returns-then-kind-ge-KINDS c = search tests
 
-pub returns-then-row-kind : goal.returns-then-row-kind
+pub returns-then-limit-f : goal.returns-then-limit-f
 unfolding within
-returns-then-row-kind c = search tests
+returns-then-limit-f c = search tests
 
 pub returns : goal.returns
 unfolding within

@@ -1,7 +1,7 @@
--- `copying::put_book` writes the flat book of a routine at the front of the output.
+-- `Asked::put_book` writes the flat book of a routine at the front of the output.
 -- The header, and behind it the lines. Assumes nothing.
 use Rattle.flatten.proofs.Putting.{few_lines, header_has_room, flat_book_written}
-use Rattle.flatten.proofs.copying.put_book.Goals as goal
+use Rattle.flatten.proofs.copying.Asked.put_book.Goals as goal
 
 pub put_header-requires : goal.put_header-requires
 put_header-requires c = search (few_lines, header_has_room)

@@ -1,7 +1,7 @@
--- `copying::put_lines` writes the flat program of a routine, line by line.
+-- `Asked::put_lines` writes the flat program of a routine, line by line.
 -- The first p lines are written (`WrittenTo`); those left fall. Assumes nothing.
 use Rattle.flatten.proofs.Putting.{none_written, target_fits, line_has_room, one_more_written}
-use Rattle.flatten.proofs.copying.put_lines.Goals as goal
+use Rattle.flatten.proofs.copying.Asked.put_lines.Goals as goal
 
 pub loop-p-init : goal.loop-p-init
 loop-p-init c = search none_written

@@ -1,7 +1,0 @@
--- `copying::put_lines` writes the flat program of a routine, line by line.
--- The first p lines are written (`WrittenTo`); those left fall. Assumes nothing.
-use Rattle.flatten.proofs.Putting.{WrittenTo}
-use Rattle.flatten.proofs.copying.put_lines.Given as goal
-
-abbrev pub invariant-loop-p : goal.invariant-loop-p
-invariant-loop-p l = WrittenTo l.starts.book.bytes.now l.routine l.n l.initial.out l.seen l.here l.p l.out
