@@ -1,6 +1,6 @@
 -- A line within the limits of its kind passes 7 to 10.
 -- By the kinds: of 0, 6 and 7 nothing is within the limits, and of the others every test is false there. Assumes nothing.
-use Prim.Native.Nat.{ℕ, zero, suc, ◌+◌, ◌<◌}
+use Prim.Native.Nat.{ℕ, zero, suc, ◌<◌}
 use native.Mathlib.Omega.{arith}
 use mathlib.Core.Bool.{Bool, true}
 use mathlib.Core.List.{List}

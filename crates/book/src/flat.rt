@@ -16,7 +16,7 @@ use super::numbers::{high, low, put_bytes};
 pub const FLAT_HEADER_BYTES: usize = HEADER_BYTES + ENTRY_BYTES;
 
 // A flat line number, kept apart from a routine's. It is wide, since the machine indexes by it at every step.
-#[derive(Clone, Copy, Debug, PartialEq, Eq)]
+#[derive(Clone, Copy, Debug, PartialEq, Eq, PartialOrd, Ord)]
 pub struct FlatLine(pub usize);
 
 // A target is a flat line.
@@ -27,7 +27,7 @@ pub enum Instruction {
     GoTo(FlatLine),
 }
 
-// Two numbers of two bytes each.
+// Two numbers of two bytes each, put at once.
 fn put_two(out: &mut [u8], at: usize, m: u16, n: u16)
     requires { at + 4 ≤ length out.old }
     ensures { out.new ≡ with_bytes out.old at (two_bytes_each (m ∷ n ∷ [])) }

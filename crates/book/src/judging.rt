@@ -15,7 +15,7 @@ const LAST_REGISTER: u8 = 31;
 const KINDS: usize = 8;
 
 // What a line's register has to be below, and its operand.
-#[derive(Clone, Copy)]
+#[derive(Clone, Copy, Debug, PartialEq, Eq)]
 struct Limit {
     register: u32,
     operand: u32,
@@ -78,6 +78,7 @@ fn limits(caller: u16, count: u16) -> [Limit; KINDS]
     let register = LAST_REGISTER as u32 + 1;
     let target = count as u32 + 1;
     let callee = caller as u32;
+    // (No kind's limits: nothing is within them. An Option would ask a second time what the limits tell.)
     let none = Limit {
         register: 0,
         operand: 0,
@@ -109,7 +110,7 @@ fn limits(caller: u16, count: u16) -> [Limit; KINDS]
     ]
 }
 
-// Whether a line is within the limits of its kind. A good line takes as long whatever its kind.
+// Whether a line is within the limits of its kind. A good line takes as long whatever its kind. (It indexes: with `get` two goals stayed unproved.)
 fn within(f: Fields, row: &[Limit; KINDS]) -> bool
     ensures { result ≡ within row.now f.kind f.register f.operand }
 {
@@ -142,6 +143,7 @@ fn line_verdict(
 }
 
 // The lowest bad line is the one named, found routine by routine. (It reads the slice: before these tests no book is taken, so there is no reader.)
+// Document 01 has it left by a label with the place, and not by `?`.
 pub(crate) fn lines_verdict(b: &[u8], counts: Counts) -> Result<(), Refusal>
     requires { Tabled b.now counts }
     ensures { verdict_told result ≡ lines_verdict b.now }

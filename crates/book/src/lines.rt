@@ -13,7 +13,7 @@ use super::table;
 #[derive(Clone, Copy, Debug, PartialEq, Eq)]
 pub struct Reg(pub u8);
 
-#[derive(Clone, Copy, Debug, PartialEq, Eq)]
+#[derive(Clone, Copy, Debug, PartialEq, Eq, PartialOrd, Ord)]
 pub struct RoutineLine(pub u16);
 
 // What a register counts to.
@@ -39,6 +39,8 @@ pub(crate) enum Kind {
     Repeat = 5,
 }
 
+// The kinds' bytes, since a pattern has to be a constant. (A line is read from its byte and not through `Kind`: its kind was tested, so an arm for
+// "no kind" would stand there that nothing reaches.)
 pub(crate) const INC: u8 = Kind::Inc as u8;
 
 pub(crate) const DEC: u8 = Kind::Dec as u8;
@@ -106,7 +108,7 @@ impl From<Fields> for Line {
     }
 }
 
-// Line j of a routine.
+// Line j of a routine. (Over the slice and its counts: it asks less than a taken book.)
 pub fn line_at(b: &[u8], counts: Counts, routine: u16, j: RoutineLine) -> Line
     requires tabled { Tabled b.now counts }
     requires routine_lt_routines { routine < counts.routines }

@@ -11,14 +11,14 @@ pub fn two_byte(b: &[u8], i: usize) -> u16
     u16::from_le_bytes([b[i], b[i + 1]])
 }
 
-// The low byte of a number.
+// The low byte of a number. (It keeps its name, under which it is promised; how it is found is std's.)
 pub fn low(n: u16) -> u8
     ensures { result ≡ n % 256 }
 {
     n.to_le_bytes()[0]
 }
 
-// The high byte of a number.
+// The high byte of a number. (As the low one.)
 pub fn high(n: u16) -> u8
     ensures { result ≡ n / 256 % 256 }
 {

@@ -8,6 +8,8 @@ use super::header::{Counts, ENTRY_BYTES, HEADER_BYTES};
 use super::numbers::two_byte;
 use super::refusals::{Name, Refusal};
 
+// (These read the slice: test 6 calls them before there is a taken book, and they ask less than one.)
+
 // The line of the whole book at which a routine starts.
 pub fn first_line(b: &[u8], routine: u16) -> u16
     requires { EntryWithin b.now routine }

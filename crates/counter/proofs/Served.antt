@@ -3,7 +3,7 @@
 use Rattle.std.specs.Prelude.{Result, Ok, Err}
 use mir.Syntax.{w64}
 use mir.Val.{Fits}
-use Prim.Native.Nat.{ℕ, ◌+◌, ◌*◌, ◌≤◌, ◌<◌}
+use Prim.Native.Nat.{ℕ, ◌+◌, ◌-◌, ◌*◌, ◌≤◌, ◌<◌}
 use native.Mathlib.Omega.{arith}
 use mathlib.Core.Path.{◌≡◌, refl, sym, ◌∙◌, ap}
 use mathlib.Core.List.{List, [], ◌++◌}
@@ -30,9 +30,17 @@ use Rattle.book.specs.Told.{refusal_told, result_told, number_told}
 use Rattle.flatten.proofs.Output.{routine_flattens, n_is_its_length, flat_book_in_front}
 use Rattle.unit.specs.declared.machine.Answer.{Answer}
 use Rattle.unit.specs.Told.{ran_told}
+use Rattle.io.specs.Counts.{IsPrefixLen}
 use Rattle.counter.specs.Printed.{counter_answers, Room, print_answer, print_call, print_run_of}
 use Rattle.counter.proofs.LastBytes.{slice_has_bytes, book_first, trailer_last}
 use Rattle.counter.proofs.Longest.{no_answer_is_longer}
+
+-- how many bytes a part in front has
+pub part_in_front : (k : ℕ) (xs : List ℕ) → k ≤ length xs → k ≡ length (take k xs)
+part_in_front k xs h = sym (length-take-le k xs h)
+
+pub book_in_front : (input : List ℕ) → length input - 74 ≡ length (take (length input - 74) input)
+book_in_front input = part_in_front (length input - 74) input (omega arith)
 
 -- ---- the run
 
@@ -114,7 +122,7 @@ module _ (book trailer : List ℕ) (many : length trailer ≡ trailer_length) (l
       flat_book_stands_in_front same = omega (arith, n_within, size, same)
 
       pub flat_book_part : length flat' ≡ length flat → 16 + 4 * n ≡ length (take (16 + 4 * n) flat')
-      flat_book_part same = sym (length-take-le (16 + 4 * n) flat' (flat_book_stands_in_front same))
+      flat_book_part same = part_in_front (16 + 4 * n) flat' (flat_book_stands_in_front same)
 
       pub shop_prints_the_run_of_it : shop_prints input ≡ print_run_of (take (16 + 4 * n) flat') trailer
       unfolding flat_book_bytes
@@ -142,11 +150,14 @@ pub ruleset by_size = (shop_prints_SHORT, shop_prints_LENGTH)
 pub room_for_the_answer : (input printed : List ℕ) → Bytes input → printed ≡ [] → Room (shop_prints input) printed
 room_for_the_answer input printed known none = omega (arith, no_answer_is_longer input known, ap length none)
 
--- copied to the front of the output
+-- Copied to the front of the output it stands there, and so many bytes are there.
 pub answer_is : (input out : List ℕ) {start printed seen copied : List ℕ} {r : ℕ} → start ≡ [] → printed ≡ start ++ shop_prints input → r ≡ length printed
-    → seen ≡ printed → copied ≡ seen → record { count = r; left = copied ++ drop r out } ≡ counter_answers input out
+    → seen ≡ printed → copied ≡ seen
+    → (record { count = r; left = copied ++ drop r out } ≡ counter_answers input out) × IsPrefixLen r (copied ++ drop r out)
 unfolding counter_answers at_the_front_of
-answer_is input out none printed_all size all_seen all_copied = rw (all_copied, all_seen, size, printed_all, none) refl
+answer_is input out {copied = copied} {r = r} none printed_all size all_seen all_copied =
+    let within : r ≤ length (copied ++ drop r out) = omega (arith, size, ap length all_seen, ap length all_copied, length-append copied (drop r out)) in
+    (rw (all_copied, all_seen, size, printed_all, none) refl, (within, part_in_front r (copied ++ drop r out) within))
 
 -- how `answer` is met
 pub ruleset answered = (slice_has_bytes, room_for_the_answer, answer_is)

@@ -19,14 +19,14 @@ pub(crate) fn routine_read(trailer: &[u8; TRAILER_BYTES]) -> u16
     two_byte(trailer, 0)
 }
 
-#[tactic(auto, using(crate::proofs::LastBytes::registers_there))]
+#[tactic(auto, using(crate::proofs::LastBytes::registers_of_the_trailer))]
 pub(crate) fn registers_read(trailer: &[u8; TRAILER_BYTES]) -> [u16; REGISTERS]
     ensures { result ≡ registers_read trailer.now }
 {
     registers_of(&trailer[ROUTINE_BYTES..TRAILER_BYTES - BUDGET_BYTES])
 }
 
-#[tactic(auto, using(crate::proofs::LastBytes::budget_there))]
+#[tactic(auto, using(crate::proofs::LastBytes::budget_of_the_trailer))]
 pub(crate) fn budget_read(trailer: &[u8; TRAILER_BYTES]) -> u64
     ensures { result ≡ budget_read trailer.now }
 {

@@ -53,6 +53,9 @@ module _ (b : List ℕ) (c : Counts) (t : TakenWith b c) (k : ℕ) where
     too_deep x s e =
         judged_so x s (to_flatten_DEPTH t.taken here ((depth_tells (book_of b) (taken_callees_below b t.taken) k).when_true.0 (sym tested ∙ e)))
 
+    pub length_fits : (lengths : List ℕ) → Row (flat_length (book_of b)) length_cap (routines b) lengths → Fits w64 (get_or lengths k 0)
+    length_fits lengths row = record { fits = omega (arith, row.each k here) }
+
     module _ (shallow : deep ≡ false) (lengths : List ℕ) (row : Row (flat_length (book_of b)) length_cap (routines b) lengths) (n : ℕ)
         (size : n ≡ get_or lengths k 0) where
       not_too_deep : ¬ OpensTooMany (book_of b) k

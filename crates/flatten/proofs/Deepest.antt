@@ -6,7 +6,7 @@ use native.Mathlib.Numerals.{add-one}
 use mathlib.Core.Path.{◌≡◌, refl, sym, ◌∙◌}
 use mathlib.Core.Logic.{⊎_elim}
 use mathlib.Core.List.{List, ◌∷◌}
-use lib.ListN.{take, drop}
+use lib.ListN.{get_or, take, drop}
 use Rattle.scope.specs.Words.{◌above◌}
 use Rattle.scope.specs.Book as book
 use Rattle.scope.specs.Book.{routines, count, line_of, fields_in, routine, book_of, used}
@@ -16,9 +16,30 @@ use Rattle.scope.proofs.Lists.{said_to_the_next}
 use Rattle.scope.proofs.Lowest.{depth_by_the_rule}
 use Rattle.scope.proofs.TakenBook.{taken_callees_below, line_in_the_book, all_its_lines}
 use Rattle.book.specs.declared.header.Counts.{Counts}
+use Rattle.book.specs.declared.lines.Reg.{Reg}
+use Rattle.book.specs.declared.lines.Line.{Line}
+use Rattle.book.specs.declared.lines.Line.TheVariants as line
+use Rattle.book.specs.Told.{line_told}
 use Rattle.book.specs.Asked.{TakenWith}
 use Rattle.book.proofs.Scanned.{below_R}
+use Rattle.flatten.specs.Rows.{Row}
 use Rattle.flatten.specs.Depths.{depth_cap}
+use Rattle.flatten.proofs.Rows.{said_of_the_line, CALL_looked_up, REPEAT_looked_up, KnownTo}
+
+-- ---- a line
+
+module _ (b : List ℕ) (c : Counts) (l : Line) (k j : ℕ) (t : TakenWith b c) (h : k < c.routines) (s : j < count b k)
+    (e : line_told l ≡ line_of (fields_in b k j)) where
+  pub depth_is : (n : ℕ) {m : Line} → l ≡ m → n ≡ min (used 0 (depth (book_of b)) (line_told m)) depth_cap
+      → n ≡ min (used 0 (depth (book_of b)) (line_of (fields_in b k j))) depth_cap
+  depth_is = said_of_the_line b c l k j t h s e (used 0 (depth (book_of b))) depth_cap
+
+  module _ (row : List ℕ) (w : Row (depth (book_of b)) depth_cap k row) where
+    pub CALL_depth : {q : ℕ} → l ≡ line.Call q → get_or row q 0 ≡ min (depth (book_of b) q) depth_cap
+    CALL_depth = CALL_looked_up b c l k j t h s e 0 _ row w
+
+    pub REPEAT_depth : {g : Reg} {q : ℕ} → l ≡ line.Repeat g q → get_or row q 0 ≡ min (depth (book_of b) q) depth_cap
+    REPEAT_depth = REPEAT_looked_up b c l k j t h s e 0 _ row w
 
 -- ---- a routine
 
@@ -58,6 +79,12 @@ module _ (b : List ℕ) (c : Counts) (k n : ℕ) (t : TakenWith b c) (h : k < c.
   routine_depth_is r g e =
       let all = rw (all_its_lines b k j here (omega (arith, size, g))) at s.so_far in
       omega (arith, e, all, depth_by_the_rule (book_of b) (taken_callees_below b t.taken) k)
+
+-- ---- the row
+
+-- The depths of the routines below k, up to the asked one.
+abbrev pub DepthsTo : (b : List ℕ) (routine k : ℕ) (depths : List ℕ) → Type 0
+DepthsTo b = KnownTo 0 (λ c n. n ≡ min (depth (book_of b) c) depth_cap)
 
 -- ---- the test
 

@@ -2,7 +2,7 @@
 -- Within 4,096 lines the starts in the table are the starts themselves; those of one routine do not fall. Assumes nothing.
 use mir.Syntax.{w16}
 use mir.Val.{Fits}
-use Prim.Native.Nat.{ℕ, ◌+◌, ◌-◌, ◌<◌, ◌≤◌, min}
+use Prim.Native.Nat.{ℕ, zero, suc, ◌+◌, ◌-◌, ◌/◌, ◌<◌, ◌≤◌, min}
 use native.Mathlib.Omega.{arith}
 use native.Mathlib.Numerals.{add-one}
 use mathlib.Core.Path.{◌≡◌, refl, sym, ◌∙◌, ap}
@@ -14,8 +14,8 @@ use lib.ListN.{length}
 use Rattle.std.specs.List.Sorted.{IsNonDecreasingBy, IsPartitionPoint, IsPartitionedBy}
 use Rattle.std.proofs.lemmas.Bool.{leb-true, leb-false}
 use Rattle.std.proofs.lemmas.List.Sorted.{IsNonDecreasingBy-from_all_adjacent, IsPartitionedBy-leb}
-use Rattle.scope.specs.Book.{routines, count, book_of}
-use Rattle.scope.specs.Flattening.{start}
+use Rattle.scope.specs.Book.{most_lines, routines, count, book_of}
+use Rattle.scope.specs.Flattening.{flat_length, start}
 use Rattle.scope.proofs.Verdicts.{one_holds, below_tells}
 use Rattle.scope.proofs.TakenBook.{taken_book, taken_callees_below, line_in_the_book, routine_ends}
 use Rattle.scope.proofs.FlatLines.{first_start, next_start, end_start, start_within}
@@ -80,8 +80,8 @@ module _ (b starts : List ℕ) (T : Table b starts) (k base p : ℕ) (w : InTheC
         record { fits = omega (arith, bound, s.long, B.ends_within k g, B.header.lines_to_4096) }
 
     -- The flat line lies in the last of them.
-    pub line_is_around : InTheLine b k base (behind - 1) p
-    line_is_around =
+    pub line_of_the_partition : InTheLine b k base (behind - 1) p
+    line_of_the_partition =
         let next : behind - 1 + 1 ≡ behind = omega (arith, some_are_below) in
         record {
           copy_within = w.copy_within;
@@ -89,6 +89,72 @@ module _ (b starts : List ℕ) (T : Table b starts) (k base p : ℕ) (w : InTheC
           from = omega (arith, below_is (behind - 1) (omega (arith, some_are_below)), from_base, w.from);
           to = omega (arith, rw (sym next) at (above_is behind (omega (arith, bound, s.long)) (omega arith)), from_base, w.from);
         }
+
+-- x, counted from where the copy begins, lies between where two lines start.
+pub record Between (b : List ℕ) (k x low high : ℕ) : Type 0 where
+  pub apart : low < high
+  pub within : high ≤ count b k
+  pub small : count b k ≤ most_lines
+  pub as_they_are : (i : ℕ) → start (book_of b) k i < length_cap
+  pub from : start (book_of b) k low ≤ x
+  pub to : x < start (book_of b) k high
+
+module _ (b : List ℕ) (k x low high : ℕ) (s : Between b k x low high) (on : low + 1 < high) (middle : ℕ) (half : middle ≡ (low + high) / 2) where
+  pub middle_there : middle ≤ count b k
+  middle_there = omega (arith, half, on, s.within)
+
+  module _ (v : ℕ) (e : v ≡ min (start (book_of b) k middle) length_cap) where
+    pub lower_half : x < v → Between b k x low middle
+    lower_half h =
+        record {
+          apart = omega (arith, half, on);
+          within = middle_there;
+          small = s.small;
+          as_they_are = s.as_they_are;
+          from = s.from;
+          to = omega (arith, e, h);
+        }
+
+    pub upper_half : v ≤ x → Between b k x middle high
+    upper_half h =
+        record {
+          apart = omega (arith, half, on);
+          within = s.within;
+          small = s.small;
+          as_they_are = s.as_they_are;
+          from = omega (arith, e, h, s.as_they_are middle);
+          to = s.to;
+        }
+
+module _ (b starts : List ℕ) (T : Table b starts) (k base p : ℕ) (w : InTheCopy b k base p) (x : ℕ) (from_base : x ≡ p - base) where
+  pub whole_copy : (high : ℕ) → high ≡ count b k → Between b k x 0 high
+  whole_copy high size =
+      let g = w.copy_within.a_routine in
+      let B = taken_book b T.taken in
+      let end = rw (sym size) at (end_start (book_of b) (taken_callees_below b T.taken) k (count b k) (routine_ends b k g)) in
+      let first = first_start (book_of b) k in
+      record {
+        apart = above_0 high end;
+        within = omega (arith, size);
+        small = omega (arith, B.ends_within k g, B.header.lines_to_4096);
+        as_they_are = below_the_cap b starts T k base w.copy_within;
+        from = omega (arith, first);
+        to = omega (arith, end, from_base, w.from, w.to);
+      }
+    where
+      above_0 : (high : ℕ) → start (book_of b) k high ≡ flat_length (book_of b) k → 0 < high
+      above_0 zero e = absurd (omega (arith, e, first_start (book_of b) k, w.from, w.to))
+      above_0 (suc high) e = omega arith
+
+  pub line_is_around : (low high : ℕ) → Between b k x low high → high ≤ low + 1 → InTheLine b k base low p
+  line_is_around low high s h =
+      let next : high ≡ low + 1 = omega (arith, h, s.apart) in
+      record {
+        copy_within = w.copy_within;
+        a_line = omega (arith, s.apart, s.within);
+        from = omega (arith, s.from, from_base, w.from);
+        to = omega (arith, rw next at s.to, from_base, w.from);
+      }
 
 -- ---- the line that is guessed, or found
 

@@ -8,10 +8,10 @@ use native.Mathlib.Numerals.{add-one}
 use mathlib.Core.Path.{◌≡◌, refl, sym, ◌∙◌, ap}
 use mathlib.Core.Logic.{◌≢◌}
 use mathlib.Core.List.{List, ◌∷◌}
-use lib.ListN.{drop}
+use lib.ListN.{length, drop}
 use Rattle.scope.specs.Ram.{Program, Has, has}
 use Rattle.scope.specs.Book as book
-use Rattle.scope.specs.Book.{Book, most_lines, routines, count, REPEAT, line_of, fields_in, routine, Taken, LineUses, by_CALL, by_REPEAT, CalleesBelow, book_of}
+use Rattle.scope.specs.Book.{Book, most_routines, most_lines, routines, count, REPEAT, line_of, fields_in, routine, Taken, LineUses, by_CALL, by_REPEAT, CalleesBelow, book_of}
 use Rattle.scope.specs.Flattening.{line_length, flat_length, start, copy_line, copy, flat_program, most_flat_lines}
 use Rattle.scope.proofs.TakenBook.{taken_book, taken_callees_below, line_in_the_book}
 use Rattle.scope.proofs.FlatLines.{first_start, next_start, start_within, Stands, whole_copy_stands, line_stands, repeat_looks, repeated_copy_stands, repeat_goes_back}
@@ -30,6 +30,7 @@ use Rattle.flatten.specs.declared.copying.Place.{Place}
 use Rattle.flatten.specs.declared.copying.Pasted.{Pasted}
 use Rattle.flatten.specs.declared.copying.Inside.{Inside}
 use Rattle.flatten.specs.declared.copying.Inside.TheVariants as inside
+use Rattle.flatten.specs.Rows.{Table}
 use Rattle.flatten.specs.Copies.{CopyWithin, InTheCopy, InTheLine, LineAround, HasCopy, LiesIn, ComesTo, PastedAt, DeeperThere, InsideIs}
 
 -- ---- what stands there
@@ -277,6 +278,18 @@ lies_here P b here p n end c size h e s =
       has_copy = c.has_copy;
     }
 
+-- At every turn flat line p lies in a line of a copy that stands in the program. (Of the lines seen nothing is asked but that each routine has
+-- its own: a guess is tried before it is taken.)
+pub record Looking (P : Program) (b starts : List ℕ) (at : Place) (p : ℕ) (seen₀ seen : List ℕ) : Type 0 where
+  pub table : Table b starts
+  pub lies_in : LiesIn P b at p
+  pub a_line_each : length seen ≡ most_routines
+  pub as_many : length seen ≡ length seen₀
+
+pub looks_first : (P : Program) (b starts : List ℕ) (at : Place) (p : ℕ) (lent seen : List ℕ) → Table b starts → LiesIn P b at p
+    → length lent ≡ most_routines → length seen ≡ length lent → Looking P b starts at p seen seen
+looks_first P b starts at p lent seen T s long same = record { table = T; lies_in = s; a_line_each = same ∙ long; as_many = refl }
+
 -- Flat line p lies in the place's line, and this is found there.
 module _ (P : Program) (b : List ℕ) (at : Place) (p : ℕ) (s : LiesIn P b at p) (found : Inside) (is : InsideIs b at.routine at.base.0 p found) where
   pub pasted_there : {x : Pasted} → found ≡ inside.Stands x → PastedAt P b p x
@@ -294,8 +307,21 @@ module _ (P : Program) (b : List ℕ) (at : Place) (p : ℕ) (s : LiesIn P b at 
     in_the_inner = there.in_the_copy
 
     module _ (next : Place) (around : LineAround b inner p next) where
-      pub looks_deeper : LiesIn P b next p
-      looks_deeper = lies_around P b inner p next (there.has_copy P s.has_copy) around
+      pub lies_deeper : LiesIn P b next p
+      lies_deeper = lies_around P b inner p next (there.has_copy P s.has_copy) around
 
       pub falls : next.routine < at.routine
       falls = rw around.same_routine there.lower
+
+-- So does the next turn's, whatever lines are seen by then.
+module _ (P : Program) (b starts : List ℕ) (at : Place) (p : ℕ) (seen₀ seen : List ℕ) (s : Looking P b starts at p seen₀ seen) (found : Inside)
+    (is : InsideIs b at.routine at.base.0 p found) {inner : Place} (e : found ≡ inside.Deeper inner) (next : Place)
+    (around : LineAround b inner p next) where
+  pub looks_deeper : (seen' : List ℕ) → length seen' ≡ length seen → Looking P b starts next p seen₀ seen'
+  looks_deeper seen' same =
+      record {
+        table = s.table;
+        lies_in = lies_deeper P b at p s.lies_in found is e next around;
+        a_line_each = same ∙ s.a_line_each;
+        as_many = same ∙ s.as_many;
+      }

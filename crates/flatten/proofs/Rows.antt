@@ -47,6 +47,26 @@ module _ {A : Type 0} (none : A) (Is : ℕ → A → Type 0) (row : List A) wher
       put c low (yes same) = rw (same, get_or-set_same row k a none (omega (arith, h, w.long))) e
       put c low (no other) = rw (get_or-set_other row k c a none other) (w.each c (omega (arith, low, other)))
 
+-- A row that is filled up to the asked routine: what is known of those below k.
+pub record KnownTo {A : Type 0} (none : A) (Is : ℕ → A → Type 0) (asked k : ℕ) (row : List A) : Type 0 where
+  pub upto : k ≤ asked + 1
+  pub below : Known none Is k row
+
+module _ {A : Type 0} (none : A) (Is : ℕ → A → Type 0) (asked : ℕ) (row : List A) where
+  pub none_known_yet : length row ≡ most_routines → KnownTo none Is asked 0 row
+  none_known_yet long = record { upto = omega arith; below = empty_row none Is row long }
+
+  module _ (b : List ℕ) (c : Counts) (t : TakenWith b c) (h : asked < c.routines) (k : ℕ) (s : KnownTo none Is asked k row) where
+    pub up_to_the_asked : k ≤ asked → k < c.routines
+    up_to_the_asked g = omega (arith, g, h)
+
+    pub one_more_known : (a : A) → k ≤ asked → Is k a → KnownTo none Is asked (k + 1) (set row k a)
+    one_more_known a g e =
+        record {
+          upto = omega (arith, g);
+          below = one_more_routine none Is row k a s.below (omega (arith, g, h, t.tabled.sized.routines_to_32)) e;
+        }
+
 -- Line j of routine k is l, and the row has what is said of the routines below k: so it has what is said of the one that the line uses.
 module _ (b : List ℕ) (c : Counts) (l : Line) (k j : ℕ) (t : TakenWith b c) (h : k < c.routines) (s : j < count b k)
     (e : line_told l ≡ line_of (fields_in b k j)) where
@@ -142,6 +162,9 @@ pub record Summing (b : List ℕ) (k n at j sum : ℕ) (starts : List ℕ) : Typ
   pub room : at + n < table_length
   pub so_far : sum ≡ min (start (book_of b) k j) length_cap
   pub filled : Filled b (slot b k j) starts
+
+pub as_long_as_lent : (xs ys : List ℕ) (i v m : ℕ) → length xs ≡ m → length ys ≡ m → length (set xs i v) ≡ length ys
+as_long_as_lent xs ys i v m e f = length-set xs i v ∙ e ∙ sym f
 
 module _ (b : List ℕ) (c : Counts) (k n : ℕ) (t : TakenWith b c) (h : k < c.routines) (size : n ≡ count b k) (at : ℕ) (place : at ≡ slot b k 0) where
   pub nothing_summed : (starts : List ℕ) → Filled b (due b k) starts → Summing b k n at 0 0 starts
@@ -257,6 +280,9 @@ module _ (b starts : List ℕ) (T : Table b starts) (k i : ℕ) (h : k < routine
 
   pub start_read : get_or starts (at + i) 0 ≡ min (start (book_of b) k i) length_cap
   start_read = rw slot_i at (T.each k i h s)
+
+  pub start_fits : Fits w64 (get_or starts (at + i) 0)
+  start_fits = record { fits = omega (arith, start_read) }
 
 -- The part of the table that has the starts of routine k's n lines.
 module _ (b starts : List ℕ) (T : Table b starts) (k : ℕ) (h : k < routines b) (at : ℕ) (place : at ≡ slot b k 0) (n : ℕ) (size : n ≡ count b k) where

@@ -14,7 +14,7 @@ use book::flat::{FlatLine, Instruction, put_header, put_line};
 use book::lines::{Line, Reg, RoutineLine};
 
 // A line, or the end, of a copy of a routine that begins at a flat line.
-#[derive(Clone, Copy)]
+#[derive(Clone, Copy, Debug, PartialEq, Eq)]
 struct Place {
     routine: u16,
     base: FlatLine,
@@ -46,7 +46,7 @@ impl Place {
 }
 
 // What stands at a flat line, and the place at which the next flat line starts.
-#[derive(Clone, Copy)]
+#[derive(Clone, Copy, Debug, PartialEq, Eq)]
 struct Pasted {
     instruction: Instruction,
     behind: Place,
@@ -54,7 +54,7 @@ struct Pasted {
 
 // What is found where a flat line lies in a line of a copy: what stands there; or it lies in the copy of the routine that the line uses.
 // (Neither is a failure, and the names say which is which: so it is no Result.)
-#[derive(Clone, Copy)]
+#[derive(Clone, Copy, Debug, PartialEq, Eq)]
 enum Inside {
     Stands(Pasted),
     Deeper(Place),
@@ -71,6 +71,9 @@ impl Inside {
         })
     }
 }
+
+// The starts, a place and a flat line travel together from here on. They stay apart, since what is known of them is another thing in each function:
+// that the flat line is in the copy, in the line, or come to; a value for each would be made anew at every step of the search.
 
 // A target becomes the start of that line, the end becomes the end, both moved by where this copy of the routine begins.
 // A flat line number is made of a routine's here and nowhere else.
@@ -104,11 +107,11 @@ fn in_repeat(starts: &Starts, at: Place, r: Reg, c: u16, p: FlatLine) -> Inside
     let start = moved(starts, at, at.line);
     let end = moved(starts, at, RoutineLine(at.line.0 + 1));
     let last = FlatLine(end.0 - 1);
-    if p.0 == last.0 {
+    if p == last {
         return Inside::stands(Instruction::GoTo(start), at.behind());
     }
     let body = Place::first(c, FlatLine(start.0 + 1));
-    if p.0 == start.0 {
+    if p == start {
         return Inside::stands(Instruction::Dec(r, end), body);
     }
     Inside::Deeper(body)
@@ -136,8 +139,8 @@ fn line_around(starts: &Starts, guess: Place, p: FlatLine) -> Place
     if guess.line.0 < starts.book.count(guess.routine) {
         let start = moved(starts, guess, guess.line);
         let end = moved(starts, guess, RoutineLine(guess.line.0 + 1));
-        if start.0 <= p.0 {
-            if p.0 < end.0 {
+        if start <= p {
+            if p < end {
                 return guess;
             }
         }
@@ -182,7 +185,7 @@ impl Asked<'_> {
     {
         if here.line.0 < self.starts.book.count(here.routine) {
             let end = moved(&self.starts, here, RoutineLine(here.line.0 + 1));
-            if p.0 < end.0 {
+            if p < end {
                 return here;
             }
         }

@@ -20,6 +20,7 @@ pub const MOST_FLAT_LINES: usize = 4096;
 const LENGTH_CAP: u32 = MOST_FLAT_LINES as u32 + 1;
 
 // Lengths: INC, DEC, GO TO 1; CALL the length of the routine; REPEAT that length plus 2.
+// (The row of lengths stays beside the book: it is filled while it is read, and is known further at each turn.)
 fn line_length(b: &Book, k: u16, j: RoutineLine, lengths: &[u32]) -> u32
     requires k_lt_routines { k < b.now.counts.routines }
     requires j_bound { j.0 < count b.now.bytes.now k }

@@ -16,14 +16,14 @@ use Rattle.scope.specs.Flattening.{flatten_call}
 use Rattle.scope.specs.Running as running
 use Rattle.scope.specs.Quote.{quote_answer}
 use Rattle.scope.specs.Running.{program_of, flat_run, run_verdict, ran, run_call}
-use Rattle.scope.specs.Page.{flatten_fields, page_flatten, registers_length, registers_of, run_fields, page_run_call, page_run, quote_fields, page_quote}
+use Rattle.scope.specs.Page.{flatten_fields, page_flatten, registers_length, registers_of, outcome_number, full_register, run_fields, page_run_call, page_run, quote_fields, page_quote}
 use Rattle.scope.proofs.Verdicts.{if_true, if_false, is_not_tells, then_goes_on, then_refuses, refused_exactly_when, accepted_only_where_passed, call_where_passed, refusal_writes_nothing}
 use Rattle.scope.proofs.Lists.{length_listed}
 use Rattle.book.specs.declared.refusals.Refusal.{Refusal}
 use Rattle.book.specs.Told as book
-use Rattle.book.specs.Told.{number_told}
+use Rattle.book.specs.Told.{name_told, refusal_told, result_told, number_told}
 use Rattle.unit.specs.declared.machine.Answer.{Answer}
-use Rattle.unit.specs.Told.{ran_told}
+use Rattle.unit.specs.Told.{outcome_told, answer_told, ran_told}
 use Rattle.page.specs.declared.answers.FlattenAnswer.{FlattenAnswer}
 use Rattle.page.specs.declared.answers.RunAnswer.{RunAnswer}
 use Rattle.page.specs.declared.answers.QuoteAnswer.{QuoteAnswer}
@@ -32,6 +32,15 @@ use Rattle.page.specs.Told.{flatten_told, run_told, quote_told}
 -- ---- flattening
 
 module _ (r : Result ℕ Refusal) where
+  pub flattening_refused : {x : Refusal} (n : ℕ) → r ≡ Err x → n ≡ number (name_told x.name)
+      → flatten_told (record { refusal = n; place = x.place; lines = 0 }) ≡ flatten_fields (number_told r)
+  unfolding flatten_told flatten_fields result_told refusal_told
+  flattening_refused n e f = rw (e, f) refl
+
+  pub flattening_accepted : {n : ℕ} → r ≡ Ok n → flatten_told (record { refusal = 0; place = 0; lines = n }) ≡ flatten_fields (number_told r)
+  unfolding flatten_told flatten_fields result_told
+  flattening_accepted e = rw e refl
+
   pub flattens_for_C : (b : List ℕ) (k : ℕ) (out out' : List ℕ) (a : FlattenAnswer) → record { answer = number_told r; left = out' } ≡ flatten_call b k out
       → flatten_told a ≡ flatten_fields (number_told r) → record { fields = flatten_told a; left = out' } ≡ page_flatten b k out
   unfolding page_flatten
@@ -41,6 +50,16 @@ module _ (r : Result ℕ Refusal) where
 -- ---- the fields of a run
 
 module _ (r : Result Answer Refusal) where
+  pub fields_refused : {x : Refusal} (n : ℕ) → r ≡ Err x → n ≡ number (name_told x.name)
+      → run_told (record { refusal = n; place = x.place; outcome = 0; register = 0; steps = 0; line = 0 }) ≡ run_fields (ran_told r)
+  unfolding run_told run_fields result_told refusal_told
+  fields_refused n e f = rw (e, f) refl
+
+  pub fields_done : {a : Answer} (o g : ℕ) → r ≡ Ok a → o ≡ outcome_number (outcome_told a.outcome) → g ≡ full_register (outcome_told a.outcome)
+      → run_told (record { refusal = 0; place = 0; outcome = o; register = g; steps = a.steps; line = a.line.0 }) ≡ run_fields (ran_told r)
+  unfolding run_told run_fields result_told answer_told
+  fields_done o g e f h = rw (e, f, h) refl
+
   pub fields_of_the_call : (c : Call running.Ran Registers) (rs' : Registers) (a : RunAnswer) → record { answer = ran_told r; left = rs' } ≡ c
       → run_told a ≡ run_fields (ran_told r) → run_told a ≡ run_fields c.answer
   fields_of_the_call c rs' a told fields = fields ∙ ap (λ d. run_fields d.answer) told
@@ -116,6 +135,15 @@ module _ (b bytes : List ℕ) (start budget : ℕ) where
 -- ---- the quote
 
 module _ (r : Result ℕ Refusal) where
+  pub quote_refused : {x : Refusal} (n : ℕ) → r ≡ Err x → n ≡ number (name_told x.name)
+      → quote_told (record { refusal = n; place = x.place; quote = 0 }) ≡ quote_fields (number_told r)
+  unfolding quote_told quote_fields result_told refusal_told
+  quote_refused n e f = rw (e, f) refl
+
+  pub quote_accepted : {n : ℕ} → r ≡ Ok n → quote_told (record { refusal = 0; place = 0; quote = n }) ≡ quote_fields (number_told r)
+  unfolding quote_told quote_fields result_told
+  quote_accepted e = rw e refl
+
   pub quotes_for_C : (b : List ℕ) (k : ℕ) (a : QuoteAnswer) → number_told r ≡ quote_answer b k → quote_told a ≡ quote_fields (number_told r)
       → quote_told a ≡ page_quote b k
   unfolding page_quote

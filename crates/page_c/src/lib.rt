@@ -1,4 +1,5 @@
 // The three calls of the page in C, under their names in C. Each is the call of `page`, with its promise.
+// (They stand here again, since the toolchain builds a library or an archive for C of a crate, and not both.)
 #![tactic(auto)]
 
 ghost use Rattle.std.specs.Prelude.{◌≡◌};

@@ -8,7 +8,8 @@ use mathlib.Core.Bool.{Bool, true, false, not}
 use mathlib.Core.Path.{◌≡◌, refl, sym, ◌∙◌, ap}
 use mathlib.Core.List.{List}
 use lib.ListN.{get_or}
-use Rattle.std.specs.Prelude.{None, Some, Result, Ok, Err}
+use Rattle.std.specs.Prelude.{Option, None, Some, Result, Ok, Err}
+use Rattle.std.specs.Option.{ok_or}
 use Rattle.std.proofs.lemmas.Bool.Decides.{nat_tests}
 use borrow.Author.Tests.{not-true, not-false}
 use Rattle.scope.specs.Refusals as paper
@@ -91,3 +92,12 @@ module _ (b : List ℕ) (c : Counts) (t : TakenWith b c) (k : ℕ) (looks : Look
           quote_in_the_row q e =
               let (is_it, fits) = some_is_within q _ (sym e ∙ quoted) in
               ap accepted is_it ∙ sym (quote_accepts b k (record { flattens = flattens; a_steady_one = a_steady_one; not_too_high = fits }))
+
+          -- The row has the quote, or there is none.
+          module _ (x : Refusal) (says : refusal_told x ≡ refusal QUOTE 0) where
+            of_the_row : (o : Option ℕ) → get_or looks.quotes k None ≡ o → number_told (ok_or o x) ≡ quote_answer b k
+            of_the_row None e = over_quoted x says e
+            of_the_row (Some q) e = quote_in_the_row q e
+
+            pub quote_or_none : (r : Result ℕ Refusal) → r ≡ ok_or (get_or looks.quotes k None) x → number_told r ≡ quote_answer b k
+            quote_or_none r e = rw e (of_the_row _ refl)

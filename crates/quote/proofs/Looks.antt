@@ -1,14 +1,14 @@
--- One look at a routine's lines tells its length, its mask and its quote.
+-- One look at a routine's lines tells its length, its mask and its quote; and what is told of the routines below k stands in the rows.
 -- The first j lines are looked at: how long they are, what they name and what they quote. Assumes nothing.
 use Prim.Native.Nat.{ℕ, ◌+◌, ◌<◌, ◌≤◌, min}
 use native.Mathlib.Omega.{arith}
 use native.Mathlib.Numerals.{add-one}
 use mathlib.Core.Path.{◌≡◌, refl, ◌∙◌, ap}
 use mathlib.Core.List.{List}
-use lib.ListN.{take}
+use lib.ListN.{length, take, set}
 use lib.Bits.{bit_or}
-use Rattle.std.specs.Prelude.{Option, Some}
-use Rattle.scope.specs.Book.{routines, count, line_of, fields_in, routine, book_of}
+use Rattle.std.specs.Prelude.{Option, Some, None}
+use Rattle.scope.specs.Book.{most_routines, routines, count, line_of, fields_in, routine, book_of}
 use Rattle.scope.specs.Flattening.{sum_of, start}
 use Rattle.scope.specs.Quote.{line_quote, quote_by, quote}
 use Rattle.scope.proofs.TakenBook.{taken_callees_below, line_in_the_book, routine_ends, all_its_lines}
@@ -18,10 +18,15 @@ use Rattle.book.specs.declared.header.Counts.{Counts}
 use Rattle.book.specs.Asked.{TakenWith}
 use Rattle.book.proofs.Scanned.{below_R}
 use Rattle.flatten.specs.Rows.{length_cap}
+use Rattle.flatten.proofs.Rows.{empty_row, one_more_routine}
+use Rattle.quote.specs.declared.looking.Looked.{Looked}
+use Rattle.quote.specs.declared.looking.Looks.{Looks}
 use Rattle.quote.specs.Naming.{Marks, line_names}
 use Rattle.quote.specs.Sums.{kept}
-use Rattle.quote.specs.Looked.{LookedAt}
+use Rattle.quote.specs.Looked.{LookedAt, LookedBelow}
 use Rattle.quote.proofs.Masks.{named_to, nothing_named, one_more_named, all_named}
+
+-- ---- a routine
 
 -- what the first j lines of routine k quote
 unfoldable pub quoted_to : (b : List ℕ) (k j : ℕ) → ℕ
@@ -72,3 +77,41 @@ module _ (b : List ℕ) (c : Counts) (k n : ℕ) (t : TakenWith b c) (h : k < c.
           mask_is = all_named b c k t here j mask s.names (omega (arith, at_the_end));
           quote_is = rw (quote_by_the_rule (book_of b) ok k) (rw (all_its_lines b k j here (omega (arith, at_the_end))) at s.quotes);
         }
+
+-- ---- all of them
+
+-- The routines below k, of R, are looked at.
+pub record RowsTo (b : List ℕ) (R k : ℕ) (looks : Looks) : Type 0 where
+  pub upto : k ≤ R
+  pub below : LookedBelow b k looks
+
+module _ (b : List ℕ) (R : ℕ) (looks : Looks) where
+  pub no_routine_looked_at : length looks.lengths ≡ most_routines → length looks.masks ≡ most_routines
+      → length looks.quotes ≡ most_routines → RowsTo b R 0 looks
+  no_routine_looked_at e f g =
+      record {
+        upto = omega arith;
+        below = record {
+          lengths_are = empty_row 0 _ looks.lengths e;
+          masks_are = empty_row 0 _ looks.masks f;
+          quotes_are = empty_row None _ looks.quotes g;
+        };
+      }
+
+  module _ (c : Counts) (t : TakenWith b c) (same : R ≡ c.routines) (k : ℕ) (s : RowsTo b R k looks) where
+    pub one_more_looked_at : (x : Looked) → k < R → LookedAt b k x
+        → RowsTo b R (k + 1)
+        (record { lengths = set looks.lengths k x.length; masks = set looks.masks k x.mask; quotes = set looks.quotes k x.quote })
+    one_more_looked_at x h l =
+        let low : k < most_routines = omega (arith, h, same, t.tabled.sized.routines_to_32) in
+        record {
+          upto = omega (arith, h);
+          below = record {
+            lengths_are = one_more_routine 0 _ looks.lengths k x.length s.below.lengths_are low l.length_is;
+            masks_are = one_more_routine 0 _ looks.masks k x.mask s.below.masks_are low l.mask_is;
+            quotes_are = one_more_routine None _ looks.quotes k x.quote s.below.quotes_are low l.quote_is;
+          };
+        }
+
+    pub all_looked_at : R ≤ k → LookedBelow b c.routines looks
+    all_looked_at h = let last : k ≡ c.routines = omega (arith, h, s.upto, same) in rw last at s.below

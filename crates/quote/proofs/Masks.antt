@@ -1,13 +1,13 @@
--- The masks of the first j lines joined mark what they name; those of all the lines what the routine names.
--- A line more names what it names, or what was named before. Assumes nothing.
+-- The mask of a line marks what the line names; the masks of the first j lines joined mark what they name.
+-- By the kinds of line; CALL and REPEAT look the routine up in the row. Assumes nothing.
 use Prim.Native.Nat.{ℕ, suc, ◌+◌, ◌<◌, ◌≤◌}
 use native.Mathlib.Numerals.{add-one}
 use mathlib.Core.Bool.{Bool, true, false}
 use mathlib.Core.Path.{◌≡◌, refl, sym}
 use mathlib.Core.List.{List, ◌∷◌}
-use lib.ListN.{take, drop}
+use lib.ListN.{get_or, take, drop}
 use lib.Bits.{bit_or}
-use Rattle.scope.specs.Words.{if, ◌or◌}
+use Rattle.scope.specs.Words.{if, ◌is◌, ◌or◌}
 use Rattle.scope.specs.Book as book
 use Rattle.scope.specs.Book.{count, line_of, fields_in, routine, book_of, used, routines}
 use Rattle.scope.specs.Quote.{names, some_line, in_or_under_by, named}
@@ -15,8 +15,15 @@ use Rattle.scope.proofs.Lists.{said_to_the_next}
 use Rattle.scope.proofs.Lowest.{in_or_under_by_the_rule}
 use Rattle.scope.proofs.TakenBook.{taken_callees_below, line_in_the_book, all_its_lines}
 use Rattle.book.specs.declared.header.Counts.{Counts}
+use Rattle.book.specs.declared.lines.Reg.{Reg}
+use Rattle.book.specs.declared.lines.RoutineLine.{RoutineLine}
+use Rattle.book.specs.declared.lines.Line.{Line}
+use Rattle.book.specs.declared.lines.Line.TheVariants as line
+use Rattle.book.specs.Told.{line_told}
 use Rattle.book.specs.Asked.{TakenWith}
-use Rattle.quote.specs.Naming.{Marks, line_names}
+use Rattle.book.proofs.Fits.{holds_of_the_line}
+use Rattle.flatten.proofs.Rows.{CALL_looked_up, REPEAT_looked_up}
+use Rattle.quote.specs.Naming.{Marks, line_names, Masks}
 use Rattle.quote.proofs.Bits.{no_register_marked, either_marked, as_marked}
 
 or_none : (s : Bool) → (s or false) ≡ s
@@ -28,6 +35,40 @@ or_again : (r s t : Bool) → (r or (s or t)) ≡ ((r or s) or t)
 unfolding if
 or_again true s t = refl
 or_again false s t = refl
+
+-- ---- a line
+
+module _ (b : List ℕ) (c : Counts) (l : Line) (k j : ℕ) (t : TakenWith b c) (h : k < c.routines) (s : j < count b k)
+    (e : line_told l ≡ line_of (fields_in b k j)) where
+  abbrev Marked : (mask : ℕ) → Type 0
+  Marked = Marks (line_names b (line_of (fields_in b k j)))
+
+  so_named : {m : Line} {f : ℕ → Bool} {mask : ℕ} → l ≡ m → Marks f mask → ((q : ℕ) → f q ≡ line_names b (line_told m) q) → Marked mask
+  so_named {mask = mask} d p same = holds_of_the_line b c l k j t h s e (λ x. Marks (line_names b x) mask) d (as_marked p same)
+
+  pub INC_marked : (mask : ℕ) {g : Reg} → l ≡ line.Inc g → Marks (λ q. g.0 is q) mask → Marked mask
+  unfolding line_names names used line_told
+  INC_marked mask {g} d p = so_named d p (λ q. sym (or_none (g.0 is q)))
+
+  pub DEC_marked : (mask : ℕ) {g : Reg} {u : RoutineLine} → l ≡ line.Dec g u → Marks (λ q. g.0 is q) mask → Marked mask
+  unfolding line_names names used line_told
+  DEC_marked mask {g} d p = so_named d p (λ q. sym (or_none (g.0 is q)))
+
+  pub GO_TO_marked : {u : RoutineLine} → l ≡ line.GoTo u → Marked 0
+  unfolding line_names names used line_told if
+  GO_TO_marked d = so_named d no_register_marked (λ q. refl)
+
+  module _ (masks : List ℕ) (w : Masks b k masks) where
+    pub CALL_marked : {q : ℕ} → l ≡ line.Call q → Marked (get_or masks q 0)
+    unfolding line_names names used line_told if
+    CALL_marked d = so_named d (CALL_looked_up b c l k j t h s e 0 _ masks w d) (λ q. refl)
+
+    pub REPEAT_marked : (mask both : ℕ) {g : Reg} {q : ℕ} → l ≡ line.Repeat g q → Marks (λ i. g.0 is i) mask
+        → both ≡ bit_or mask (get_or masks q 0) → Marked both
+    unfolding line_names names used line_told
+    REPEAT_marked mask both d p f = rw f (so_named d (either_marked p (REPEAT_looked_up b c l k j t h s e 0 _ masks w d)) (λ q. refl))
+
+-- ---- a routine
 
 -- what the first j lines of routine k name
 unfoldable pub named_to : (b : List ℕ) (k j : ℕ) → (register : ℕ) → Bool

@@ -33,10 +33,7 @@ fn quote_taken(b: &Book, routine: usize) -> Result<u64, Refusal>
     if !is_steady(b, &looks.masks, routine as u16) {
         return Err(Refusal::of(Name::NotSteady));
     }
-    match looks.quotes[routine] {
-        Some(steps) => Ok(steps),
-        None => Err(Refusal::of(Name::Quote)),
-    }
+    looks.quotes[routine].ok_or(Refusal::of(Name::Quote))
 }
 
 // Quotes one routine of a book: refused, or the number of steps. The routine's number comes in wide.

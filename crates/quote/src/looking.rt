@@ -9,14 +9,14 @@ use book::reader::Book;
 use flatten::lengths::{ROW, next_start};
 
 // What a look tells. The length stops at 4,097, as in flattening; there is a quote where 64 bits hold it.
-#[derive(Clone, Copy)]
+#[derive(Clone, Copy, Debug, PartialEq, Eq)]
 struct Looked {
     length: u32,
     mask: u32,
     quote: Option<u64>,
 }
 
-// What the looks told, a row for each part: flattening reads the lengths alone.
+// What the looks told, a row for each part: flattening reads the lengths alone, and the steady test the masks alone.
 #[derive(Drop)]
 pub(crate) struct Looks {
     pub(crate) lengths: [u32; ROW],

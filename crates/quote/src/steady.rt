@@ -33,7 +33,7 @@ impl Tests<'_> {
     {
         match self.book.line_at(k, j) {
             Line::Inc(_) => true,
-            Line::Dec(_, t) | Line::GoTo(t) => j.0 < t.0,
+            Line::Dec(_, t) | Line::GoTo(t) => j < t,
             Line::Call(c) => self.routine_steady(c),
             Line::Repeat(r, c) => {
                 if has(self.masks[c as usize], r) {

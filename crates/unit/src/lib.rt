@@ -14,14 +14,14 @@ use book::refusals::{Name, Refusal};
 use machine::{Answer, REGISTERS, run_on};
 
 // The unit's state, line and registers.
-#[derive(Clone, Copy)]
+#[derive(Clone, Copy, Debug, PartialEq, Eq)]
 pub struct State {
     pub line: FlatLine,
     pub regs: [u16; REGISTERS],
 }
 
 // What a bench step answers, and the new state.
-#[derive(Clone, Copy)]
+#[derive(Clone, Copy, Debug, PartialEq, Eq)]
 pub struct Stepped {
     pub ran: Result<Answer, Refusal>,
     pub state: State,

@@ -1,5 +1,5 @@
 -- `table::table_verdict` is the table's verdict.
--- The loop keeps that all entries below r pass and where routine r has to start (`Due`); R - r falls. Assumes nothing.
+-- The loop keeps that all entries below r pass and where routine r has to start (`Due`). Assumes nothing.
 use Rattle.book.specs.Told.{name_told, verdict_told}
 use Rattle.book.proofs.Scanned.{due_at_first, due_next, entry_refused, end_refused, table_right}
 use Rattle.book.proofs.table.table_verdict.Goals as goal

@@ -3,7 +3,7 @@
 use Rattle.std.proofs.Common.{rules, ◌≡◌, refl, ℕ, ◌-◌, true, false, leb}
 use Rattle.std.specs.List.Sorted.{IsPartitionPoint}
 use Rattle.std.proofs.lemmas.List.Sorted.{IsPartitionPoint-from_clause}
-use Rattle.flatten.proofs.Finding.{at_or_below, some_are_below, line_before_fits, line_is_around}
+use Rattle.flatten.proofs.Finding.{at_or_below, some_are_below, line_before_fits, line_of_the_partition}
 use Rattle.flatten.proofs.copying.halve.Goals as goal
 
 module _ (c : goal.After-partition_point-behind) where
@@ -20,4 +20,4 @@ pub overflow_cast-result : goal.overflow_cast-result
 overflow_cast-result c = line_before_fits _ _ c.args.starts.now.filled _ _ _ c.requires (x c) refl _ c.of.ensures _ c.partition_point-behind.ensures.bound (point c)
 
 pub returns : goal.returns
-returns c = line_is_around _ _ c.args.starts.now.filled _ _ _ c.requires (x c) refl _ c.of.ensures _ c.partition_point-behind.ensures.bound (point c)
+returns c = line_of_the_partition _ _ c.args.starts.now.filled _ _ _ c.requires (x c) refl _ c.of.ensures _ c.partition_point-behind.ensures.bound (point c)

@@ -1,5 +1,5 @@
 -- `depth::routine_depth` is how many routines are open inside one another from a routine on, stopped at the cap.
--- The first j lines are looked at (`DeepestTo`); the count less j falls. Assumes nothing.
+-- The first j lines are looked at (`DeepestTo`). Assumes nothing.
 use Rattle.flatten.proofs.Deepest.{none_looked_at, one_more_looked_at, routine_depth_is}
 use Rattle.flatten.proofs.depth.routine_depth.Goals as goal
 

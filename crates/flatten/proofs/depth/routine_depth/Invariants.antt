@@ -1,5 +1,5 @@
 -- `depth::routine_depth` is how many routines are open inside one another from a routine on, stopped at the cap.
--- The first j lines are looked at (`DeepestTo`); the count less j falls. Assumes nothing.
+-- The first j lines are looked at (`DeepestTo`). Assumes nothing.
 use Rattle.flatten.proofs.Deepest.{DeepestTo}
 use Rattle.flatten.proofs.depth.routine_depth.Given as goal
 

@@ -1,5 +1,5 @@
 -- `lengths::measure` puts where the lines of a routine start in the table, and is its length.
--- The first j lines are measured (`Summing`); the count less j falls. Assumes nothing.
+-- The first j lines are measured (`Summing`). Assumes nothing.
 use Rattle.flatten.proofs.Rows.{nothing_summed, one_more_summed, routine_measured}
 use Rattle.flatten.proofs.lengths.measure.Goals as goal
 

@@ -1,5 +1,5 @@
 -- `lengths::measure` puts where the lines of a routine start in the table, and is its length.
--- The first j lines are measured (`Summing`); the count less j falls. Assumes nothing.
+-- The first j lines are measured (`Summing`). Assumes nothing.
 use Rattle.flatten.proofs.Rows.{Summing}
 use Rattle.flatten.proofs.lengths.measure.Given as goal
 

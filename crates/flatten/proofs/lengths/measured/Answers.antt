@@ -1,5 +1,5 @@
 -- `lengths::measured` has the length of every routine, and puts where each line starts in the table.
--- The routines below k are measured (`Measuring`); those left fall. Assumes nothing.
+-- The routines below k are measured (`Measuring`). Assumes nothing.
 use Rattle.flatten.proofs.Rows.{nothing_measured, all_measured}
 use Rattle.flatten.proofs.lengths.measured.Goals as goal
 

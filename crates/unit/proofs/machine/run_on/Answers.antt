@@ -1,6 +1,6 @@
 -- `machine::run_on` ends as the run of the book's program does, and leaves the registers so.
 -- At every turn the rest of the run ends as the whole does (`Keeps`); the budget less the steps falls. Assumes nothing.
-use Rattle.unit.proofs.Runs.{nothing_done, line_there, line_below_the_most, register_there, run_goes_on, ends}
+use Rattle.unit.proofs.Runs.{nothing_done, line_below_the_most, register_there, run_goes_on, ends}
 use Rattle.unit.proofs.machine.run_on.Goals as goal
 
 pub run-init : goal.run-init

@@ -1,6 +1,6 @@
 -- `registers::registers_of` has the registers that the bytes say.
 -- The first j are read (`ReadTo`). Assumes nothing.
-use Rattle.unit.proofs.AsBytes.{none_read, one_more_read, all_read}
+use Rattle.unit.proofs.AsBytes.{all_read}
 use Rattle.unit.proofs.registers.registers_of.Goals as goal
 
 pub returns : goal.returns

@@ -1,6 +1,6 @@
 -- `Asked::paste_at` is what stands at a flat line, and the place behind it.
 -- At every turn the flat line lies in a line of a copy that stands in the program (`LiesIn`); the routine falls. Assumes nothing.
-use Rattle.flatten.proofs.Pasting.{pasted_there, in_the_inner, looks_deeper, falls}
+use Rattle.flatten.proofs.Pasting.{pasted_there, in_the_inner, lies_deeper, falls}
 use Rattle.flatten.proofs.copying.Asked.paste_at.Goals as goal
 
 pub returns-in-Stands : goal.returns-in-Stands
@@ -13,4 +13,4 @@ pub loop-x-smaller : goal.loop-x-smaller
 loop-x-smaller c = search falls
 
 pub loop-x-preserved : goal.loop-x-preserved
-loop-x-preserved c = search looks_deeper
+loop-x-preserved c = search lies_deeper

@@ -1,5 +1,5 @@
 -- `Asked::put_lines` writes the flat program of a routine, line by line.
--- The first p lines are written (`WrittenTo`); those left fall. Assumes nothing.
+-- The first p lines are written (`WrittenTo`). Assumes nothing.
 use Rattle.flatten.proofs.Putting.{none_written, target_fits, line_has_room, one_more_written}
 use Rattle.flatten.proofs.copying.Asked.put_lines.Goals as goal
 

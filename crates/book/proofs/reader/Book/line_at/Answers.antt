@@ -1,0 +1,7 @@
+-- `reader::Book::line_at` is what is read of the book's bytes.
+-- The reader's bytes are a taken book's. Assumes nothing.
+use borrow.Author.Rules.{rules}
+use Rattle.book.proofs.reader.Book.line_at.Goals as goal
+
+pub returns : goal.returns
+returns c = search rules
