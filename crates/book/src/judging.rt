@@ -118,7 +118,7 @@ fn within(f: Fields, row: &[Limit; KINDS]) -> bool
     if KINDS <= kind {
         return false;
     }
-    let limit = row[kind];
+    let limit = &row[kind];
     if limit.register <= f.register as u32 {
         return false;
     }

@@ -5,4 +5,5 @@ pub mod LastBytes
 pub mod Lines
 pub mod Longest
 pub mod Served
+pub mod Placed
 pub mod Unique

@@ -134,7 +134,7 @@ one_more_line i (suc j) (v ∷ rs) h =
     let there : suc i + j ≡ i + suc j = omega arith in
     rw (one_more_line (suc i) j rs (omega arith), there) (sym (append_assoc (register_line i v) _ _))
 
-no_longer : (i j : ℕ) (rs : Registers) → length (register_lines i (take j rs)) ≤ length (register_lines i rs)
+pub no_longer : (i j : ℕ) (rs : Registers) → length (register_lines i (take j rs)) ≤ length (register_lines i rs)
 unfolding register_lines
 no_longer i zero rs = omega arith
 no_longer i (suc j) [] = omega arith
@@ -151,7 +151,7 @@ module _ (rs : Registers) where
   room_to : (out₀ : List ℕ) → Room (register_lines 0 rs) out₀ → (k : ℕ) → Room (register_lines 0 (take k rs)) out₀
   room_to out₀ room k = omega (arith, room, no_longer 0 k rs)
 
-  line_behind : (j : ℕ) → j < length rs → Parts (register_lines 0 (take (j + 1) rs)) (register_lines 0 (take j rs)) (register_line j (get_or rs j 0))
+  pub line_behind : (j : ℕ) → j < length rs → Parts (register_lines 0 (take (j + 1) rs)) (register_lines 0 (take j rs)) (register_line j (get_or rs j 0))
   line_behind j h =
       let here : 0 + j ≡ j = omega arith in
       record { joined = rw (add-one j) (one_more_line 0 j rs h ∙ ap (λ k. register_lines 0 (take j rs) ++ register_line k (get_or rs j 0)) here) }

@@ -31,7 +31,8 @@ use Rattle.flatten.proofs.Output.{routine_flattens, n_is_its_length, flat_book_i
 use Rattle.unit.specs.declared.machine.Answer.{Answer}
 use Rattle.unit.specs.Told.{ran_told}
 use Rattle.io.specs.Counts.{IsPrefixLen}
-use Rattle.counter.specs.Printed.{counter_answers, Room, print_answer, print_call, print_run_of}
+use Rattle.counter.specs.declared.TheConstants.{LONGEST_ANSWER}
+use Rattle.counter.specs.Printed.{longest_answer, counter_answers, Room, print_answer, print_call, print_run_of}
 use Rattle.counter.proofs.LastBytes.{slice_has_bytes, book_first, trailer_last}
 use Rattle.counter.proofs.Longest.{no_answer_is_longer}
 
@@ -146,6 +147,10 @@ module _ (input : List ℕ) (x : Refusal) where
 pub ruleset by_size = (shop_prints_SHORT, shop_prints_LENGTH)
 
 -- ---- the answer
+
+-- The output has as many bytes as the longest answer, and no more.
+pub as_long_as_the_longest : LONGEST_ANSWER ≡ longest_answer
+as_long_as_the_longest = refl
 
 pub room_for_the_answer : (input printed : List ℕ) → Bytes input → printed ≡ [] → Room (shop_prints input) printed
 room_for_the_answer input printed known none = omega (arith, no_answer_is_longer input known, ap length none)

@@ -95,3 +95,8 @@ too_deep_tells m n stopped =
     (λ (deep : most_open < m). (above_tells m most_open).when_true.1 deep ∙ sym ((above_tells n most_open).when_true.1 (omega (arith, deep, stopped))))
     (λ (flat : m ≤ most_open). (above_tells m most_open).when_false.1 flat ∙ sym ((above_tells n most_open).when_false.1 (omega (arith, flat, stopped))))
     (one_holds (above_tells m most_open))
+
+-- So the row tells of the asked routine whether it is too deep.
+pub too_deep_in_the_row : (b : List ℕ) (routine k : ℕ) (depths : List ℕ) → DepthsTo b routine k depths → routine < k
+    → (get_or depths routine 0 above most_open) ≡ (depth (book_of b) routine above most_open)
+too_deep_in_the_row b routine k depths s g = too_deep_tells (get_or depths routine 0) (depth (book_of b) routine) (s.below.each routine g)

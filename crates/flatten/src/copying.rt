@@ -1,8 +1,8 @@
 // The copying: each flat line is worked out by itself, over one table of starts that serves all copies. What decides only reads, and one
 // loop writes the output. A flat line opens at most 32 copies and halves at most 12 times in each, so n flat lines take at most 12 * 32 * n
 // halvings whatever the book. A routine of length 0 is never opened. Where a line follows the last one in its copy nothing is searched, and
-// else a guess is tried before a line is searched.
-ghost use Rattle.std.specs.Prelude.{◌≡◌, ◌+◌, ◌<◌, ◌≤◌, length};
+// else a guess and the next lines are tried before a line is searched.
+ghost use Rattle.std.specs.Prelude.{◌≡◌, ◌+◌, ◌<◌, ◌≤◌, length, IfSome};
 ghost use Rattle.scope.specs.Book.{most_lines, count, REPEAT, line_of, fields_in, book_of};
 ghost use Rattle.scope.specs.Flattening.{flat_length, start, flat_program, flat_book, flat_book_bytes, at_the_front_of};
 ghost use Rattle.book.specs.Written.{with_lines};
@@ -12,6 +12,9 @@ ghost use Rattle.flatten.specs.Copies.{CopyWithin, InTheCopy, InTheLine, LineAro
 use super::lengths::{ROW, Starts};
 use book::flat::{FlatLine, Instruction, put_header, put_line};
 use book::lines::{Line, Reg, RoutineLine};
+
+// So many lines behind the guessed one are tried before one is searched.
+const TRIED: u16 = 8;
 
 // A line, or the end, of a copy of a routine that begins at a flat line.
 #[derive(Clone, Copy, Debug, PartialEq, Eq)]
@@ -131,23 +134,43 @@ fn look_inside(starts: &Starts, at: Place, p: FlatLine) -> Inside
     }
 }
 
-// The line of a copy in which flat line p lies: the one that is guessed, if that is right. It is tried as if nothing were known of it.
+// The line of a copy in which flat line p lies, if it is the one that is guessed or one of the next: where routines of one line or none are used
+// line after line, it is one of these. They are tried as if nothing were known of the guess.
+fn guessed(starts: &Starts, guess: Place, p: FlatLine) -> Option<Place>
+    requires { InTheCopy starts.now.book.bytes.now guess.routine guess.base.0 p.0 }
+    ensures { IfSome result (λ at. LineAround starts.now.book.bytes.now guess p.0 at) }
+{
+    let n = starts.book.count(guess.routine);
+    if n <= guess.line.0 {
+        return None;
+    }
+    if p < moved(starts, guess, guess.line) {
+        return None;
+    }
+    let next = guess.behind().line;
+    if p < moved(starts, guess, next) {
+        return Some(guess);
+    }
+    for i in next.0..n.min(next.0 + TRIED) {
+        if p < moved(starts, guess, RoutineLine(i + 1)) {
+            let line = RoutineLine(i);
+            return Some(Place { line, ..guess });
+        }
+    }
+    None
+}
+
+// The line of a copy in which flat line p lies: by the guess, or searched.
 fn line_around(starts: &Starts, guess: Place, p: FlatLine) -> Place
     requires { InTheCopy starts.now.book.bytes.now guess.routine guess.base.0 p.0 }
     ensures { LineAround starts.now.book.bytes.now guess p.0 result }
 {
-    if guess.line.0 < starts.book.count(guess.routine) {
-        let start = moved(starts, guess, guess.line);
-        let end = moved(starts, guess, RoutineLine(guess.line.0 + 1));
-        if start <= p {
-            if p < end {
-                return guess;
-            }
-        }
-    }
-    Place {
-        line: halve(starts, guess, p),
-        ..guess
+    match guessed(starts, guess, p) {
+        Some(at) => at,
+        None => Place {
+            line: halve(starts, guess, p),
+            ..guess
+        },
     }
 }
 

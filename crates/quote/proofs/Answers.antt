@@ -32,16 +32,9 @@ use Rattle.book.specs.Asked.{TakenWith}
 use Rattle.book.proofs.Answers.{checked_refused}
 use Rattle.flatten.proofs.Answers.{refused_as_given, it_passes}
 use Rattle.quote.specs.declared.looking.Looks.{Looks}
-use Rattle.quote.specs.Sums.{kept}
+use Rattle.quote.specs.Sums.{kept, in_the_rows}
 use Rattle.quote.specs.Looked.{LookedBelow}
-
-none_is_above : (q : ℕ) → None ≡ kept q → most_quote < q
-unfolding kept
-none_is_above q e = grind (arith, nat_tests)
-
-some_is_within : (n q : ℕ) → Some n ≡ kept q → (n ≡ q) × (q ≤ most_quote)
-unfolding kept
-some_is_within n q e = grind (arith, nat_tests)
+use Rattle.quote.proofs.Looks.{none_is_above, some_is_within, kept_of_the_rows}
 
 refused_with : (b : List ℕ) (k : ℕ) (x : Refusal) {y : paper.Refusal} → refusal_told x ≡ y → GivenQuote b k y
     → number_told (Err x) ≡ quote_answer b k
@@ -64,14 +57,14 @@ module _ (b : List ℕ) (c : Counts) (t : TakenWith b c) (k : ℕ) (looks : Look
       pub asked_is_there : k < c.routines
       asked_is_there = omega (arith, flattens.a_routine, t.tabled.sized.counts.routines_are)
 
-      quoted : get_or looks.quotes k None ≡ kept (quote (book_of b) k)
-      quoted = w.quotes_are.each k asked_is_there
+      abbrev its_quote : Option ℕ
+      its_quote = in_the_rows looks.numbers looks.overs k
+
+      quoted : its_quote ≡ kept (quote (book_of b) k)
+      quoted = kept_of_the_rows b c.routines k looks.numbers looks.overs w.numbers_are w.overs_are asked_is_there
 
       pub asked_in_the_rows : k < most_routines
       asked_in_the_rows = omega (arith, asked_is_there, t.tabled.sized.routines_to_32)
-
-      pub place_fits : Fits w64 (k * 16)
-      place_fits = record { fits = omega (arith, asked_in_the_rows) }
 
       module _ (is_steady : Bool) (tests : is_steady ≡ steady (book_of b) k) where
         pub not_steady : (x : Refusal) → refusal_told x ≡ refusal NOT_STEADY 0 → not is_steady ≡ true → number_told (Err x) ≡ quote_answer b k
@@ -84,10 +77,10 @@ module _ (b : List ℕ) (c : Counts) (t : TakenWith b c) (k : ℕ) (looks : Look
           a_steady_one : SteadyRoutine (book_of b) k
           a_steady_one = (steady_exactly (book_of b) (taken_callees_below b t.taken) k).0 (sym tests ∙ not-false is_steady so)
 
-          pub over_quoted : (x : Refusal) → refusal_told x ≡ refusal QUOTE 0 → get_or looks.quotes k None ≡ None → number_told (Err x) ≡ quote_answer b k
+          pub over_quoted : (x : Refusal) → refusal_told x ≡ refusal QUOTE 0 → its_quote ≡ None → number_told (Err x) ≡ quote_answer b k
           over_quoted x s e = refused_with b k x s (quote_QUOTE flattens a_steady_one (none_is_above _ (sym e ∙ quoted)))
 
-          pub quote_in_the_row : (q : ℕ) → get_or looks.quotes k None ≡ Some q → number_told (Ok q) ≡ quote_answer b k
+          pub quote_in_the_row : (q : ℕ) → its_quote ≡ Some q → number_told (Ok q) ≡ quote_answer b k
           unfolding result_told
           quote_in_the_row q e =
               let (is_it, fits) = some_is_within q _ (sym e ∙ quoted) in
@@ -95,9 +88,9 @@ module _ (b : List ℕ) (c : Counts) (t : TakenWith b c) (k : ℕ) (looks : Look
 
           -- The row has the quote, or there is none.
           module _ (x : Refusal) (says : refusal_told x ≡ refusal QUOTE 0) where
-            of_the_row : (o : Option ℕ) → get_or looks.quotes k None ≡ o → number_told (ok_or o x) ≡ quote_answer b k
+            of_the_row : (o : Option ℕ) → its_quote ≡ o → number_told (ok_or o x) ≡ quote_answer b k
             of_the_row None e = over_quoted x says e
             of_the_row (Some q) e = quote_in_the_row q e
 
-            pub quote_or_none : (r : Result ℕ Refusal) → r ≡ ok_or (get_or looks.quotes k None) x → number_told r ≡ quote_answer b k
-            quote_or_none r e = rw e (of_the_row _ refl)
+            pub quote_or_none : (o : Option ℕ) (r : Result ℕ Refusal) → o ≡ its_quote → r ≡ ok_or o x → number_told r ≡ quote_answer b k
+            quote_or_none o r f e = rw e (of_the_row o (sym f))

@@ -2,6 +2,7 @@
 pub mod Bits
 pub mod Masks
 pub mod Looks
+pub mod Keeping
 pub mod Steadiness
 pub mod Answers
 -- what callers have

@@ -3,14 +3,20 @@
 use Prim.Native.Nat.{ℕ, ◌+◌, ◌<◌, ◌≤◌, min}
 use native.Mathlib.Omega.{arith}
 use native.Mathlib.Numerals.{add-one}
-use mathlib.Core.Path.{◌≡◌, refl, ◌∙◌, ap}
+use mathlib.Core.Path.{◌≡◌, refl, sym, ◌∙◌, ap}
 use mathlib.Core.List.{List}
 use lib.ListN.{length, take, set}
 use lib.Bits.{bit_or}
 use Rattle.std.specs.Prelude.{Option, Some, None}
+use Rattle.std.specs.Option.{unwrap_or, is_some}
+use borrow.Author.Tests.{not-true, not-false}
+use Rattle.std.proofs.lemmas.Bool.Decides.{nat_tests}
+use mathlib.Core.Bool.{Bool, true, false, not}
+use Rattle.scope.specs.Words.{◌above◌}
+use Rattle.scope.proofs.Verdicts.{above_tells}
 use Rattle.scope.specs.Book.{most_routines, routines, count, line_of, fields_in, routine, book_of}
 use Rattle.scope.specs.Flattening.{sum_of, start}
-use Rattle.scope.specs.Quote.{line_quote, quote_by, quote}
+use Rattle.scope.specs.Quote.{line_quote, quote_by, quote, most_quote}
 use Rattle.scope.proofs.TakenBook.{taken_callees_below, line_in_the_book, routine_ends, all_its_lines}
 use Rattle.scope.proofs.FlatLines.{sum_to_the_next, first_start, end_start}
 use Rattle.scope.proofs.Lowest.{quote_by_the_rule}
@@ -22,7 +28,7 @@ use Rattle.flatten.proofs.Rows.{empty_row, one_more_routine}
 use Rattle.quote.specs.declared.looking.Looked.{Looked}
 use Rattle.quote.specs.declared.looking.Looks.{Looks}
 use Rattle.quote.specs.Naming.{Marks, line_names}
-use Rattle.quote.specs.Sums.{kept}
+use Rattle.quote.specs.Sums.{kept, Numbers, Overs, in_the_rows}
 use Rattle.quote.specs.Looked.{LookedAt, LookedBelow}
 use Rattle.quote.proofs.Masks.{named_to, nothing_named, one_more_named, all_named}
 
@@ -78,6 +84,45 @@ module _ (b : List ℕ) (c : Counts) (k n : ℕ) (t : TakenWith b c) (h : k < c.
           quote_is = rw (quote_by_the_rule (book_of b) ok k) (rw (all_its_lines b k j here (omega (arith, at_the_end))) at s.quotes);
         }
 
+-- ---- the two rows of a quote
+
+not-not : (x : Bool) → not (not x) ≡ x
+not-not true = refl
+not-not false = refl
+
+pub none_is_above : (q : ℕ) → None ≡ kept q → most_quote < q
+unfolding kept
+none_is_above q e = grind (arith, nat_tests)
+
+pub some_is_within : (n q : ℕ) → Some n ≡ kept q → (n ≡ q) × (q ≤ most_quote)
+unfolding kept
+some_is_within n q e = grind (arith, nat_tests)
+
+-- What goes into them where a quote is kept ..
+pub number_kept : (o : Option ℕ) (q : ℕ) → o ≡ kept q → q ≤ most_quote → unwrap_or o 0 ≡ q
+number_kept None q e h = absurd (omega (arith, none_is_above q e, h))
+number_kept (Some n) q e h = (some_is_within n q e).0
+
+pub mark_kept : (o : Option ℕ) (q : ℕ) (x : Bool) → o ≡ kept q → is_some o ≡ not x → x ≡ (q above most_quote)
+mark_kept None q x e f = not-false x (sym f) ∙ sym ((above_tells q most_quote).when_true.1 (none_is_above q e))
+mark_kept (Some n) q x e f = not-true x (sym f) ∙ sym ((above_tells q most_quote).when_false.1 (some_is_within n q e).1)
+
+-- .. and what is read from them is what is kept.
+pub kept_of_the_rows : (b : List ℕ) (k c : ℕ) (numbers : List ℕ) (overs : List Bool) → Numbers b k numbers → Overs b k overs → c < k
+    → in_the_rows numbers overs c ≡ kept (quote (book_of b) c)
+unfolding in_the_rows kept
+kept_of_the_rows b k c numbers overs n o h = grind (arith, nat_tests, n.each c h, o.each c h)
+
+pub its_quote : (b : List ℕ) (k c : ℕ) (looks : Looks) → LookedBelow b k looks → c < k → in_the_rows looks.numbers looks.overs c ≡ kept (quote (book_of b) c)
+its_quote b k c looks w h = kept_of_the_rows b k c looks.numbers looks.overs w.numbers_are w.overs_are h
+
+module _ (b : List ℕ) (k : ℕ) (h : k < most_routines) (o : Option ℕ) (e : o ≡ kept (quote (book_of b) k)) where
+  pub one_more_number : (numbers : List ℕ) (n : ℕ) → Numbers b k numbers → n ≡ unwrap_or o 0 → Numbers b (k + 1) (set numbers k n)
+  one_more_number numbers n w f = one_more_routine 0 _ numbers k n w h (λ low. f ∙ number_kept o _ e low)
+
+  pub one_more_mark : (overs : List Bool) (x : Bool) → Overs b k overs → is_some o ≡ not x → Overs b (k + 1) (set overs k x)
+  one_more_mark overs x w f = one_more_routine false _ overs k x w h (mark_kept o _ x e f)
+
 -- ---- all of them
 
 -- The routines below k, of R, are looked at.
@@ -87,21 +132,27 @@ pub record RowsTo (b : List ℕ) (R k : ℕ) (looks : Looks) : Type 0 where
 
 module _ (b : List ℕ) (R : ℕ) (looks : Looks) where
   pub no_routine_looked_at : length looks.lengths ≡ most_routines → length looks.masks ≡ most_routines
-      → length looks.quotes ≡ most_routines → RowsTo b R 0 looks
-  no_routine_looked_at e f g =
+      → length looks.numbers ≡ most_routines → length looks.overs ≡ most_routines → RowsTo b R 0 looks
+  no_routine_looked_at e f g h =
       record {
         upto = omega arith;
         below = record {
           lengths_are = empty_row 0 _ looks.lengths e;
           masks_are = empty_row 0 _ looks.masks f;
-          quotes_are = empty_row None _ looks.quotes g;
+          numbers_are = empty_row 0 _ looks.numbers g;
+          overs_are = empty_row false _ looks.overs h;
         };
       }
 
   module _ (c : Counts) (t : TakenWith b c) (same : R ≡ c.routines) (k : ℕ) (s : RowsTo b R k looks) where
     pub one_more_looked_at : (x : Looked) → k < R → LookedAt b k x
         → RowsTo b R (k + 1)
-        (record { lengths = set looks.lengths k x.length; masks = set looks.masks k x.mask; quotes = set looks.quotes k x.quote })
+        (record {
+          lengths = set looks.lengths k x.length;
+          masks = set looks.masks k x.mask;
+          numbers = set looks.numbers k (unwrap_or x.quote 0);
+          overs = set looks.overs k (not (is_some x.quote));
+        })
     one_more_looked_at x h l =
         let low : k < most_routines = omega (arith, h, same, t.tabled.sized.routines_to_32) in
         record {
@@ -109,7 +160,8 @@ module _ (b : List ℕ) (R : ℕ) (looks : Looks) where
           below = record {
             lengths_are = one_more_routine 0 _ looks.lengths k x.length s.below.lengths_are low l.length_is;
             masks_are = one_more_routine 0 _ looks.masks k x.mask s.below.masks_are low l.mask_is;
-            quotes_are = one_more_routine None _ looks.quotes k x.quote s.below.quotes_are low l.quote_is;
+            numbers_are = one_more_number b k low x.quote l.quote_is looks.numbers _ s.below.numbers_are refl;
+            overs_are = one_more_mark b k low x.quote l.quote_is looks.overs _ s.below.overs_are (sym (not-not (is_some x.quote)));
           };
         }
 

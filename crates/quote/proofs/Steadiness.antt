@@ -39,6 +39,10 @@ and_false false = refl
 pub line_falls : (k m : ℕ) → 2 * k + 1 ≡ m → 2 * k < m
 line_falls k m f = omega (arith, f)
 
+-- Every routine of a book has a place in a row.
+pub has_a_place_of_32 : (r : ℕ) (b : List ℕ) (c : Counts) → TakenWith b c → r < c.routines → r < 32
+has_a_place_of_32 r b c t h = omega (arith, h, t.tabled.sized.routines_to_32)
+
 -- ---- a line
 
 module _ (b : List ℕ) (c : Counts) (l : Line) (k j : ℕ) (t : TakenWith b c) (h : k < c.routines) (s : j < count b k)

@@ -4,3 +4,5 @@ pub mod Naming
 pub mod Sums
 pub mod Looked
 pub mod Steadiness
+-- of its laws alone
+pub mod Marked

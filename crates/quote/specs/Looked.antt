@@ -8,7 +8,7 @@ use Rattle.flatten.specs.Rows.{length_cap, Row}
 use Rattle.quote.specs.declared.looking.Looked.{Looked}
 use Rattle.quote.specs.declared.looking.Looks.{Looks}
 use Rattle.quote.specs.Naming.{Marks, Masks}
-use Rattle.quote.specs.Sums.{kept, Quotes}
+use Rattle.quote.specs.Sums.{kept, Numbers, Overs}
 
 -- Routine k is looked at: its length, its mask and its quote.
 pub record LookedAt (b : List ℕ) (k : ℕ) (x : Looked) : Type 0 where
@@ -20,4 +20,5 @@ pub record LookedAt (b : List ℕ) (k : ℕ) (x : Looked) : Type 0 where
 pub record LookedBelow (b : List ℕ) (k : ℕ) (looks : Looks) : Type 0 where
   pub lengths_are : Row (flat_length (book_of b)) length_cap k looks.lengths
   pub masks_are : Masks b k looks.masks
-  pub quotes_are : Quotes b k looks.quotes
+  pub numbers_are : Numbers b k looks.numbers
+  pub overs_are : Overs b k looks.overs

@@ -22,18 +22,20 @@ use steady::is_steady;
 fn quote_taken(b: &Book, routine: usize) -> Result<u64, Refusal>
     ensures { number_told result ≡ quote_answer b.now.bytes.now routine }
 {
-    // The quotes begin as Some(0), since 512 bytes of 0 would be cleared by a call, for which the stack that zn_quote is tested on is too small.
+    // No quote stands in the rows yet. (The marks are no zeros, and lie between the others: so many zeros at once would be cleared by a call, for
+    // which the stack that zn_quote is tested on is too small.)
     let mut looks = Looks {
         lengths: [0; ROW],
         masks: [0; ROW],
-        quotes: [Some(0); ROW],
+        overs: [true; ROW],
+        numbers: [0; ROW],
     };
     looks.fill(b);
     flattens(b, routine, &looks.lengths)?;
     if !is_steady(b, &looks.masks, routine as u16) {
         return Err(Refusal::of(Name::NotSteady));
     }
-    looks.quotes[routine].ok_or(Refusal::of(Name::Quote))
+    looks.quote(routine as u16).ok_or(Refusal::of(Name::Quote))
 }
 
 // Quotes one routine of a book: refused, or the number of steps. The routine's number comes in wide.

@@ -1,5 +1,7 @@
 // One look at the lines of each routine: how long it is, which registers it names, and what it quotes.
-ghost use Rattle.std.specs.Prelude.{◌<◌};
+ghost use Rattle.std.specs.Prelude.{◌≡◌, ◌<◌};
+ghost use Rattle.scope.specs.Book.{most_routines};
+ghost use Rattle.quote.specs.Sums.{in_the_rows};
 ghost use Rattle.quote.specs.Looked.{LookedAt, LookedBelow};
 
 use super::naming::line_mask;
@@ -16,15 +18,28 @@ struct Looked {
     quote: Option<u64>,
 }
 
-// What the looks told, a row for each part: flattening reads the lengths alone, and the steady test the masks alone.
+// What the looks told, a row for each part: flattening reads the lengths alone, and the steady test the masks alone. A quote stands in two rows,
+// its number and the mark that there is none: a row of `Option<u64>` takes half as much again, and a short book's quote waits for its clearing.
 #[derive(Drop)]
 pub(crate) struct Looks {
     pub(crate) lengths: [u32; ROW],
     pub(crate) masks: [u32; ROW],
-    pub(crate) quotes: [Option<u64>; ROW],
+    pub(crate) overs: [bool; ROW],
+    pub(crate) numbers: [u64; ROW],
 }
 
 impl Looks {
+    // What the two rows have of a routine's quote.
+    pub(crate) fn quote(&self, c: u16) -> Option<u64>
+        requires { c < most_routines }
+        ensures { result ≡ in_the_rows self.now.numbers self.now.overs c }
+    {
+        if self.overs[c as usize] {
+            return None;
+        }
+        Some(self.numbers[c as usize])
+    }
+
     // A routine the sum of its lines. What it uses stands in the rows.
     fn look(&self, b: &Book, k: u16) -> Looked
         requires k_lt_routines { k < b.now.counts.routines }
@@ -38,7 +53,7 @@ impl Looks {
             let line = RoutineLine(j);
             length = next_start(b, k, line, &self.lengths, length);
             mask |= line_mask(b, k, line, &self.masks);
-            quote = added(quote, line_quote(b, k, line, &self.quotes));
+            quote = added(quote, line_quote(b, k, line, self));
         }
         Looked {
             length,
@@ -56,7 +71,8 @@ impl Looks {
             let x = self.look(b, k);
             self.lengths[k as usize] = x.length;
             self.masks[k as usize] = x.mask;
-            self.quotes[k as usize] = x.quote;
+            self.overs[k as usize] = x.quote.is_none();
+            self.numbers[k as usize] = x.quote.unwrap_or(0);
         }
     }
 }

@@ -4,8 +4,8 @@ use Prim.Native.Nat.{ℕ, ◌+◌, ◌*◌, ◌<◌, ◌≤◌, ◌/◌, ◌%◌
 use native.Mathlib.Omega.{arith}
 use native.Mathlib.Decide.{ℕ_discrete}
 use mathlib.Core.Path.{◌≡◌, refl, sym, ◌∙◌, ap}
-use mathlib.Core.List.{List, [], ◌∷◌}
-use lib.ListN.{length, take, get_or, set, length-set}
+use mathlib.Core.List.{List, [], ◌∷◌, ◌++◌}
+use lib.ListN.{length, take, drop, get_or, set, length-set, length-append, length-drop}
 use lib.Seq.{length-take-le, take_all, drop-cons, get_or-set_same, get_or-set_other}
 use Rattle.scope.specs.Book.{two_byte, two_bytes, two_bytes_each}
 use Rattle.scope.specs.Steps.{register_count, Registers}
@@ -73,6 +73,16 @@ module _ (regs : Registers) (many : length regs ≡ register_count) (bytes₀ : 
             piece_written two_bytes two_bytes_each refl (λ x xs. refl) j regs (drop-cons regs j 0 h) bytes₀ bytes bytes' 0 (2 * j)
             w.front (omega (arith, two_for_each (take j regs), size)) (omega (arith, h, many, given)) (put ∙ ap (with_bytes bytes (2 * j)) same);
       }
+
+  -- They stay 64 bytes.
+  pub written_long : length bytes ≡ registers_length
+  unfolding with_bytes
+  written_long =
+      let front = two_bytes_each (take j regs) in
+      let size : length front ≤ length bytes₀ = omega (arith, two_for_each (take j regs), length-take-le j regs (omega (arith, w.upto, many)), w.upto, given) in
+      let same : 0 + length front ≡ length front = omega arith in
+      let left : bytes ≡ front ++ drop (length front) bytes₀ = w.front ∙ ap (λ n. front ++ drop n bytes₀) same in
+      omega (arith, ap length left, length-append front (drop (length front) bytes₀), length-drop (length front) bytes₀, size, given)
 
   pub all_are_written : length regs ≤ j → bytes ≡ two_bytes_each regs
   all_are_written h =

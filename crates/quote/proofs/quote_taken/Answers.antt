@@ -3,7 +3,7 @@
 use Rattle.std.proofs.lemmas.Result.{err_from_is_err_and}
 use Rattle.book.specs.Told.{name_told}
 use Rattle.flatten.proofs.Answers.{routine_fits}
-use Rattle.quote.proofs.Answers.{does_not_flatten, asked_is_there, asked_in_the_rows, place_fits, not_steady, quote_or_none}
+use Rattle.quote.proofs.Answers.{does_not_flatten, asked_is_there, asked_in_the_rows, not_steady, quote_or_none}
 use Rattle.quote.proofs.quote_taken.Goals as goal
 
 pub returns-in_err-flattens : goal.returns-in_err-flattens
@@ -21,11 +21,11 @@ pub returns-then-not-is_steady : goal.returns-then-not-is_steady
 unfolding name_told
 returns-then-not-is_steady c = search (not_steady, c.in_ok-flattens.was)
 
-pub offset_bounds-looks-routine : goal.offset_bounds-looks-routine
-offset_bounds-looks-routine c = search (place_fits, c.in_ok-flattens.was)
+pub overflow_cast-routine-2 : goal.overflow_cast-routine-2
+overflow_cast-routine-2 c = search (routine_fits, c.in_ok-flattens.was)
 
-pub bounds-looks-routine : goal.bounds-looks-routine
-bounds-looks-routine c = search (asked_in_the_rows, c.in_ok-flattens.was)
+pub quote-requires : goal.quote-requires
+quote-requires c = search (asked_in_the_rows, c.in_ok-flattens.was)
 
 pub returns : goal.returns
 unfolding name_told

@@ -6,15 +6,16 @@ use Rattle.scope.specs.Book.{book_of}
 use Rattle.scope.specs.Quote.{line_quote, quote}
 use Rattle.book.proofs.Fits.{CALL_below, REPEAT_below}
 use Rattle.book.specs.Told.{line_told}
-use Rattle.flatten.proofs.Rows.{CALL_in_the_row, REPEAT_in_the_row}
+use Rattle.quote.proofs.Steadiness.{has_a_place_of_32, CALL_there, REPEAT_there}
+use Rattle.quote.proofs.Looks.{its_quote}
 use Rattle.quote.specs.Sums.{kept}
 use Rattle.quote.proofs.sums.line_quote.Goals as goal
 
-pub bounds-quotes-c : goal.bounds-quotes-c
-bounds-quotes-c c = search CALL_in_the_row
+pub quote-requires : goal.quote-requires
+quote-requires c = search (has_a_place_of_32, CALL_there)
 
-pub bounds-quotes-c-in-Repeat : goal.bounds-quotes-c-in-Repeat
-bounds-quotes-c-in-Repeat c = search REPEAT_in_the_row
+pub quote-requires-in-Repeat : goal.quote-requires-in-Repeat
+quote-requires-in-Repeat c = search (has_a_place_of_32, REPEAT_there)
 
 pub returns-in-Inc : goal.returns-in-Inc
 unfolding line_quote line_told kept
@@ -22,9 +23,10 @@ returns-in-Inc c = grind (arith, nat_tests)
 
 pub returns-in-Call : goal.returns-in-Call
 unfolding line_quote line_told
-returns-in-Call c = grind (arith, c.requires.quotes.each c.in-Call.c (search CALL_below))
+returns-in-Call c = grind (arith, its_quote _ _ c.in-Call.c _ c.requires.looked_below (search CALL_below))
 
 pub returns-in-Repeat : goal.returns-in-Repeat
 unfolding line_quote line_told
 returns-in-Repeat c =
-    grind (arith, c.repeated.ensures (quote (book_of c.args.b.now.bytes.now) c.in-Repeat.c), c.requires.quotes.each c.in-Repeat.c (search REPEAT_below))
+    let its = its_quote _ _ c.in-Repeat.c _ c.requires.looked_below (search REPEAT_below) in
+    grind (arith, c.repeated.ensures (quote (book_of c.args.b.now.bytes.now) c.in-Repeat.c), its)

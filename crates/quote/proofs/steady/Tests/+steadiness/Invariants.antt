@@ -11,4 +11,4 @@ abbrev pub decreases-routine_steady : goal.decreases-routine_steady
 decreases-routine_steady l = 2 * l.k + 1
 
 abbrev pub invariant-routine_steady-loop-j : goal.invariant-routine_steady-loop-j
-invariant-routine_steady-loop-j l = SteadyTo l.self.book.bytes.now l.k l.j
+invariant-routine_steady-loop-j l = SteadyTo l.self.book.now.bytes.now l.k l.j
