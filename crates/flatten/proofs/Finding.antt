@@ -158,15 +158,11 @@ module _ (b starts : List ℕ) (T : Table b starts) (k base p : ℕ) (w : InTheC
 
 -- ---- the line that is guessed, or found
 
--- A routine has at most 4,096 lines, so the numbers of the lines that are tried fit.
-module _ (b starts : List ℕ) (T : Table b starts) (k base p : ℕ) (w : InTheCopy b k base p) (n i : ℕ) (size : n ≡ count b k) (h : i < n) where
-  pub line_of_a_routine : i < most_lines
-  line_of_a_routine =
-      let B = taken_book b T.taken in
-      omega (arith, size, h, B.ends_within k w.copy_within.a_routine, B.header.lines_to_4096)
-
-  pub tried_lines_fit : (next : ℕ) → next ≡ i + 1 → Fits w16 (next + 8)
-  tried_lines_fit next e = record { fits = omega (arith, line_of_a_routine, e) }
+-- A routine has at most 4,096 lines.
+pub line_of_a_routine : (b starts : List ℕ) (T : Table b starts) (k base p : ℕ) (w : InTheCopy b k base p) (n i : ℕ) → n ≡ count b k → i < n → i < most_lines
+line_of_a_routine b starts T k base p w n i size h =
+    let B = taken_book b T.taken in
+    omega (arith, size, h, B.ends_within k w.copy_within.a_routine, B.header.lines_to_4096)
 
 module _ (b : List ℕ) (guess : Place) (p : ℕ) (w : InTheCopy b guess.routine guess.base.0 p) where
   pub guess_is_right : (n u v : ℕ) → n ≡ count b guess.routine → guess.line.0 < n

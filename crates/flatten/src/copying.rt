@@ -1,7 +1,7 @@
 // The copying: each flat line is worked out by itself, over one table of starts that serves all copies. What decides only reads, and one
 // loop writes the output. A flat line opens at most 32 copies and halves at most 12 times in each, so n flat lines take at most 12 * 32 * n
 // halvings whatever the book. A routine of length 0 is never opened. Where a line follows the last one in its copy nothing is searched, and
-// else a guess and the next lines are tried before a line is searched.
+// else a guess and the line behind it are tried before a line is searched.
 ghost use Rattle.std.specs.Prelude.{◌≡◌, ◌+◌, ◌<◌, ◌≤◌, length, IfSome};
 ghost use Rattle.scope.specs.Book.{most_lines, count, REPEAT, line_of, fields_in, book_of};
 ghost use Rattle.scope.specs.Flattening.{flat_length, start, flat_program, flat_book, flat_book_bytes, at_the_front_of};
@@ -12,9 +12,6 @@ ghost use Rattle.flatten.specs.Copies.{CopyWithin, InTheCopy, InTheLine, LineAro
 use super::lengths::{ROW, Starts};
 use book::flat::{FlatLine, Instruction, put_header, put_line};
 use book::lines::{Line, Reg, RoutineLine};
-
-// So many lines behind the guessed one are tried before one is searched.
-const TRIED: u16 = 8;
 
 // A line, or the end, of a copy of a routine that begins at a flat line.
 #[derive(Clone, Copy, Debug, PartialEq, Eq)]
@@ -134,8 +131,8 @@ fn look_inside(starts: &Starts, at: Place, p: FlatLine) -> Inside
     }
 }
 
-// The line of a copy in which flat line p lies, if it is the one that is guessed or one of the next: where routines of one line or none are used
-// line after line, it is one of these. They are tried as if nothing were known of the guess.
+// The line of a copy in which flat line p lies, if it is the one that is guessed or the one behind it: where a routine of one line is used line
+// after line, it is the one behind. They are tried as if nothing were known of the guess.
 fn guessed(starts: &Starts, guess: Place, p: FlatLine) -> Option<Place>
     requires { InTheCopy starts.now.book.bytes.now guess.routine guess.base.0 p.0 }
     ensures { IfSome result (λ at. LineAround starts.now.book.bytes.now guess p.0 at) }
@@ -147,15 +144,15 @@ fn guessed(starts: &Starts, guess: Place, p: FlatLine) -> Option<Place>
     if p < moved(starts, guess, guess.line) {
         return None;
     }
-    let next = guess.behind().line;
-    if p < moved(starts, guess, next) {
+    let next = guess.behind();
+    if p < moved(starts, guess, next.line) {
         return Some(guess);
     }
-    for i in next.0..n.min(next.0 + TRIED) {
-        if p < moved(starts, guess, RoutineLine(i + 1)) {
-            let line = RoutineLine(i);
-            return Some(Place { line, ..guess });
-        }
+    if n <= next.line.0 {
+        return None;
+    }
+    if p < moved(starts, guess, next.behind().line) {
+        return Some(next);
     }
     None
 }

@@ -19,7 +19,7 @@ struct Looked {
 }
 
 // What the looks told, a row for each part: flattening reads the lengths alone, and the steady test the masks alone. A quote stands in two rows,
-// its number and the mark that there is none: a row of `Option<u64>` takes half as much again, and a short book's quote waits for its clearing.
+// its number and the mark that there is none: a row of `Option<u64>` takes nearly twice as much, and a short book's quote waits for its clearing.
 #[derive(Drop)]
 pub(crate) struct Looks {
     pub(crate) lengths: [u32; ROW],
